@@ -1,0 +1,24 @@
+-- The value that a text says, or why it says none. Source: this project's own.
+use Rattle.std.specs.Prelude.{ℤ, ℕ, List, length, Result, Ok, Err, nat_le, not, if◌then◌else◌}
+use Rattle.blink_base.specs.Numbers.{is_number, number_of, significant, without_minus, most_digits}
+use Rattle.blink_base.specs.declared.value.Kind.{Kind}
+use Rattle.blink_base.specs.declared.value.Value.{Value}
+use Rattle.blink_base.specs.declared.value.ValueFault.{ValueFault}
+use Rattle.blink_base.specs.declared.value.Kind.TheVariants as kind
+use Rattle.blink_base.specs.declared.value.Value.TheVariants as value
+use Rattle.blink_base.specs.declared.value.ValueFault.TheVariants as fault
+
+-- the whole number that a text says, or the first form that it breaks
+abbrev pub read_number : List ℕ → Result ℤ ValueFault
+read_number text =
+    if not (is_number text) then Err fault.NotNumber
+    else (if nat_le (length (significant (without_minus text))) most_digits then Ok (number_of text) else Err fault.TooLong)
+
+-- a whole number as a value
+abbrev pub int_or_fault : Result ℤ ValueFault → Result Value ValueFault
+int_or_fault (Ok number) = Ok (value.Int number)
+int_or_fault (Err why) = Err why
+
+-- the value of a kind that the bytes say, or the first form that they break
+abbrev pub read_value : Kind → List ℕ → Result Value ValueFault
+read_value kind.Int text = int_or_fault (read_number text)

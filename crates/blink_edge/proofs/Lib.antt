@@ -1,0 +1,4 @@
+pub mod Counts
+pub mod FileFacts
+pub mod Loops
+pub mod Pieces

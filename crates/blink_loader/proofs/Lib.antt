@@ -1,0 +1,3 @@
+pub mod AllRecords
+pub mod LeftFacts
+pub mod RangeFacts

@@ -1,0 +1,4 @@
+pub mod Examples
+pub mod Left
+pub mod Range
+pub mod Records
