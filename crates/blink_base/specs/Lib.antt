@@ -1,3 +1,5 @@
 pub mod Examples
 pub mod Numbers
 pub mod Read
+pub mod Texts
+pub mod Words

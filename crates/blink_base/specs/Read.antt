@@ -1,10 +1,8 @@
 -- The value that a text says, or why it says none. Source: this project's own.
 use Rattle.std.specs.Prelude.{ℤ, ℕ, List, length, Result, Ok, Err, nat_le, not, if◌then◌else◌}
 use Rattle.blink_base.specs.Numbers.{is_number, number_of, significant, without_minus, most_digits}
-use Rattle.blink_base.specs.declared.value.Kind.{Kind}
 use Rattle.blink_base.specs.declared.value.Value.{Value}
 use Rattle.blink_base.specs.declared.value.ValueFault.{ValueFault}
-use Rattle.blink_base.specs.declared.value.Kind.TheVariants as kind
 use Rattle.blink_base.specs.declared.value.Value.TheVariants as value
 use Rattle.blink_base.specs.declared.value.ValueFault.TheVariants as fault
 
@@ -19,6 +17,6 @@ abbrev pub int_or_fault : Result ℤ ValueFault → Result Value ValueFault
 int_or_fault (Ok number) = Ok (value.Int number)
 int_or_fault (Err why) = Err why
 
--- the value of a kind that the bytes say, or the first form that they break
-abbrev pub read_value : Kind → List ℕ → Result Value ValueFault
-read_value kind.Int text = int_or_fault (read_number text)
+-- the whole number that the bytes say, as a value
+abbrev pub read_int : List ℕ → Result Value ValueFault
+read_int text = int_or_fault (read_number text)

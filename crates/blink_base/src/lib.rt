@@ -1,10 +1,24 @@
-//! Values, and the texts that say them.
+//! The small types that every crate stands on: words, lists, values, and why a statement is refused.
 //!
-//! A value has a kind. A kind says which texts say its values, how a value is kept, and how values are ordered.
+//! [`Word`] and [`List`] are thin types over `String` and `Vec` that contracts see as their bytes and their items. A
+//! value has a kind. A kind says which texts say its values, how a value is kept, and how values are ordered.
 #![tactic(auto)]
 
+mod copied;
 pub mod examples;
+mod list;
 mod numbers;
+mod op;
+mod refusal;
 mod value;
+mod word;
 
+pub use copied::Copied;
+pub use list::List;
+pub use op::Op;
+pub use refusal::Refusal;
 pub use value::{Kind, Value, ValueFault};
+pub use word::Word;
+
+#[cfg(test)]
+mod tests;

@@ -1,7 +1,9 @@
 // A value, its kind, and the reading of a value from a text.
 ghost use Rattle.std.specs.Prelude.{◌≡◌};
 
+use crate::Copied;
 use crate::numbers::read_number;
+use std::alloc::{AllocError, Global};
 use thiserror::Error;
 
 /// What a column's values are. Source: this project's own.
@@ -9,6 +11,10 @@ use thiserror::Error;
 pub enum Kind {
     /// A whole number of at most 15 digits.
     Int,
+    /// A text.
+    Text,
+    /// A date.
+    Date,
 }
 
 /// A value of a column. Source: this project's own.
@@ -30,21 +36,29 @@ pub enum ValueFault {
 }
 
 impl Value {
-    ghost use Rattle.blink_base.specs.Read.{read_value};
+    ghost use Rattle.blink_base.specs.Read.{read_int};
 
-    /// The value of a kind that the bytes of a text say.
+    /// The value of a kind that the bytes of a text say; the kind is [`Kind::Int`], since texts and dates aren't read yet.
     ///
     /// For [`Kind::Int`] that is an optional `-` and at least one digit, of which at most 15 stand behind the zeros
     /// that lead; `-0` is 0. [`ValueFault::NotNumber`] comes exactly where the text has another form, and else
     /// [`ValueFault::TooLong`] exactly where it has more digits. It takes no memory. Source: this project's own.
     pub fn read(kind: Kind, bytes: &[u8]) -> Result<Value, ValueFault>
-        ensures { result ≡ read_value kind bytes.now }
+        requires { kind ≡ Kind.Int }
+        ensures { result ≡ read_int bytes.now }
     {
         match kind {
             Kind::Int => match read_number(bytes) {
                 Ok(number) => Ok(Value::Int(number)),
                 Err(fault) => Err(fault),
             },
+            Kind::Text | Kind::Date => unreachable!(),
         }
+    }
+}
+
+impl Copied for Value {
+    fn copied(&self, _: Global) -> Result<Value, AllocError> {
+        Ok(*self)
     }
 }

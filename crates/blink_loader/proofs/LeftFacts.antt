@@ -6,7 +6,7 @@ use Rattle.csv.specs.Reading.{Reached, ReadRecord, default_config, owned_rows_re
 use Rattle.csv.specs.declared.iter.ByteRecordsIntoIter.{ByteRecordsIntoIter}
 use Rattle.csv.proofs.ReadFacts.{rows-end, rows-more}
 use Rattle.blink_loader.specs.Left.{IsBetween, records_after, source_left}
-use Rattle.blink_loader.proofs.AllRecords.{record_taken, none_left}
+use Rattle.blink_loader.proofs.NextRecord.{record_taken, none_left}
 
 some_is : {X : Type 0} (o : Option X) → IsSome o → (x : X) × (o ≡ Some x)
 some_is None h = absurd (false≢true h)

@@ -1,3 +1,3 @@
-pub mod AllRecords
 pub mod LeftFacts
+pub mod NextRecord
 pub mod RangeFacts

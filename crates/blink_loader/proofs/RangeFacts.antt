@@ -6,7 +6,7 @@ use Rattle.csv.specs.Reading.{strip_bom, is_bom, default_config}
 use Rattle.csv.specs.declared.parser.State.TheVariants as st
 use Rattle.blink_loader.specs.Records.{Record, records_of}
 use Rattle.blink_loader.specs.Range.{range_over, column_place, count_below}
-use Rattle.blink_loader.proofs.AllRecords.{records_at_most}
+use Rattle.blink_loader.proofs.NextRecord.{records_at_most}
 
 -- the field at a place, or the empty one
 pub at_place : (fields : List (List ℕ)) (at : ℕ) → unwrap_or (field_at fields at) [] ≡ get_or fields at []

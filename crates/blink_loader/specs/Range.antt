@@ -1,11 +1,10 @@
 -- How many records of a CSV text have a column within bounds, or the first refusal. Source: this project's own.
 use Rattle.std.specs.Prelude.{ℕ, ◌+◌, ℤ, int_le, Bool, true, false, ◌&&◌, ◌==◌, List, [], ◌∷◌, length, count_by, Option, Some, None, Result, Ok, Err, slice_index_or}
 use Rattle.std.specs.List.{position_from}
-use Rattle.blink_base.specs.Read.{read_value}
+use Rattle.blink_base.specs.Read.{read_int}
 use Rattle.blink_base.specs.declared.value.Value.{Value}
 use Rattle.blink_base.specs.declared.value.Value.TheVariants as value
 use Rattle.blink_base.specs.declared.value.ValueFault.{ValueFault}
-use Rattle.blink_base.specs.declared.value.Kind.TheVariants as kind
 use Rattle.blink_loader.specs.declared.range.RangeFault.{RangeFault}
 use Rattle.blink_loader.specs.declared.range.RangeFault.TheVariants as fault
 use Rattle.blink_loader.specs.Records.{Record, records_of, same_name}
@@ -27,7 +26,7 @@ number_if (Err why) = None
 
 -- the whole number that a field's bytes say
 abbrev pub field_number : List ℕ → Option ℤ
-field_number field = number_if (read_value kind.Int field)
+field_number field = number_if (read_int field)
 
 -- whether a field says no whole number
 abbrev pub is_bad : Option ℤ → Bool

@@ -1,17 +1,18 @@
 -- What a count tells, by the answer of the call that counts.
-use Rattle.std.specs.Prelude.{◌≡◌, ℕ, [], ◌++◌, codes, true, false, Result, Ok, Err, refl}
-use Rattle.std.specs.Fmt.{decimal}
+use Rattle.std.specs.Prelude.{◌≡◌, ℕ, [], true, false, Result, Ok, Err, refl}
 use Rattle.std.specs.Str.{str_to_ascii_lowercase}
+use Rattle.blink_base.specs.declared.refusal.Refusal.TheVariants as refusal
 use Rattle.blink_loader.specs.declared.range.RangeFault.{RangeFault}
 use Rattle.blink_loader.specs.declared.range.RangeFault.TheVariants as fault
 use Rattle.blink_loader.specs.Range.{RangeRefusal, unknown_column, bad_record, told_range}
-use Rattle.blink_run.specs.Program.{Bytes, Told, line, refused_line, told_count}
+use Rattle.report_text.specs.Texts.{Bytes, refusal_bytes, number_bytes}
+use Rattle.blink_run.specs.Program.{Told, told_count}
 
 -- what an answer is printed as; want of memory is none of a count's
 abbrev pub told_answer : Bytes → Result ℕ RangeFault → Told
-told_answer column (Ok count) = record { printed = line (decimal count); refused = false }
-told_answer column (Err fault.UnknownColumn) = record { printed = refused_line (codes "unknown column " ++ str_to_ascii_lowercase column); refused = true }
-told_answer column (Err fault.BadInput) = record { printed = refused_line (codes "not built"); refused = true }
+told_answer column (Ok count) = record { printed = number_bytes count; refused = false }
+told_answer column (Err fault.UnknownColumn) = record { printed = refusal_bytes (refusal.UnknownColumn (str_to_ascii_lowercase column)); refused = true }
+told_answer column (Err fault.BadInput) = record { printed = refusal_bytes refusal.NotBuilt; refused = true }
 told_answer column (Err fault.Memory) = record { printed = []; refused = true }
 
 pub told_count_by_answer : (column : Bytes) (range : Result ℕ RangeRefusal) → told_count column range ≡ told_answer column (told_range range)

@@ -2,7 +2,8 @@
 use Rattle.std.specs.Prelude.{◌≡◌, ◌<◌, ◌≤◌, ◌+◌, ℕ, [], length, take, Option, Some}
 use Rattle.std.specs.Io.KnownBytes.{Appends, Consumes, IsAtEnd, Keeps}
 use Rattle.blink_edge.specs.Causes.{Rose}
-use Rattle.blink_run.specs.Program.{Bytes, Asked, to_count, nothing_known, told_by, status_of}
+use Rattle.report_text.specs.Texts.{Bytes}
+use Rattle.blink_run.specs.Program.{Asked, to_count, nothing_known, told_by, status_of}
 use Rattle.blink_run.specs.declared.status.Status.{Status}
 use Rattle.blink_run.specs.declared.status.Status.TheVariants as status
 

@@ -1,13 +1,11 @@
 -- What the program prints for the words of its command line and its input. Source: this project's own.
-use Rattle.std.specs.Prelude.{ℕ, ℤ, Bool, true, false, List, [], ◌∷◌, ◌++◌, codes, Option, Some, None, Result, Ok, Err, if◌then◌else◌}
+use Rattle.std.specs.Prelude.{ℕ, ℤ, Bool, true, false, List, [], ◌∷◌, codes, Option, Some, None, Result, Ok, Err, if◌then◌else◌}
 use Rattle.std.specs.Str.{bytes_eq, str_to_ascii_lowercase}
-use Rattle.std.specs.Fmt.{decimal}
+use Rattle.blink_base.specs.declared.refusal.Refusal.TheVariants as refusal
+use Rattle.report_text.specs.Texts.{Bytes, refusal_bytes, number_bytes, usage_bytes}
 use Rattle.blink_loader.specs.Range.{RangeRefusal, unknown_column, bad_record, range_of, field_number}
 use Rattle.blink_run.specs.declared.status.Status.{Status}
 use Rattle.blink_run.specs.declared.status.Status.TheVariants as status
-
-abbrev pub Bytes : Type 0
-Bytes = List ℕ
 
 -- what the words ask for: the count of a column between two whole numbers, or nothing that is known
 pub data Asked : Type 0 where
@@ -33,18 +31,6 @@ abbrev pub asked_by : List Bytes → Asked
 asked_by [] = nothing_known
 asked_by (word ∷ words) = if bytes_eq word (codes "range") then count_form words else nothing_known
 
--- a text as a line
-abbrev pub line : Bytes → Bytes
-line text = text ++ codes "\n"
-
--- the line of a refusal
-abbrev pub refused_line : Bytes → Bytes
-refused_line why = line (codes "refused: " ++ why)
-
--- the line for words in no stated form
-abbrev pub usage_line : Bytes
-usage_line = line (codes "usage: blink run [--rows N] [--blocks N] | blink range COLUMN LOW HIGH | blink demo SEED ROWS")
-
 -- what a run tells: what it prints, and whether it refuses anything
 pub record Told : Type 0 where
   pub printed : Bytes
@@ -52,14 +38,14 @@ pub record Told : Type 0 where
 
 -- what a count tells: its line, or its refusal; the column's name is printed with small letters, and a record at fault is not told apart as yet
 abbrev pub told_count : Bytes → Result ℕ RangeRefusal → Told
-told_count column (Ok count) = record { printed = line (decimal count); refused = false }
-told_count column (Err unknown_column) = record { printed = refused_line (codes "unknown column " ++ str_to_ascii_lowercase column); refused = true }
-told_count column (Err (bad_record why)) = record { printed = refused_line (codes "not built"); refused = true }
+told_count column (Ok count) = record { printed = number_bytes count; refused = false }
+told_count column (Err unknown_column) = record { printed = refusal_bytes (refusal.UnknownColumn (str_to_ascii_lowercase column)); refused = true }
+told_count column (Err (bad_record why)) = record { printed = refusal_bytes refusal.NotBuilt; refused = true }
 
 -- what the program tells for what is asked, over an input
 abbrev pub told_by : Asked → Bytes → Told
 told_by (to_count column low high) input = told_count column (range_of input column low high)
-told_by nothing_known input = record { printed = usage_line; refused = false }
+told_by nothing_known input = record { printed = usage_bytes; refused = false }
 
 -- the status of a run that came to its end
 abbrev pub status_of : Asked → Bytes → Status

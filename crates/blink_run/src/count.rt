@@ -1,19 +1,33 @@
 // What a count tells.
-ghost use Rattle.std.specs.Prelude.{◌≡◌, ◌≤◌, length, true, false, IfOk, string_bytes};
+ghost use Rattle.std.specs.Prelude.{◌≡◌, ◌≤◌, length, true, false, IfOk};
+ghost use Rattle.std.specs.Str.{str_to_ascii_lowercase};
+ghost use Rattle.blink_base.specs.declared.refusal.Refusal.TheVariants.{UnknownColumn};
+ghost use Rattle.report_text.specs.Texts.{refusal_bytes};
 ghost use Rattle.blink_run.specs.Program.{told_by};
 ghost use Rattle.blink_run.specs.Words.{asked_of};
 ghost use Rattle.blink_run.specs.declared.words.Request.TheVariants.{Count};
 
-use crate::lines::{count_line, not_built_line, unknown_column_line};
+use crate::lines::count_line;
 use crate::words::Bounds;
+use blink_base::{List, Refusal, Word};
 use blink_loader::{RangeFault, range_count};
+use report_text::refusal_text;
 use std::alloc::{AllocError, Global};
 
 // A printed line, and whether it refuses.
 #[derive(Drop)]
 pub(crate) struct Told {
-    pub(crate) line: String,
+    pub(crate) line: List<u8>,
     pub(crate) refused: bool,
+}
+
+// The line for a column that the header lacks. Its name is printed with small letters.
+fn unknown_column_line(alloc: Global, column: &str) -> Result<List<u8>, AllocError>
+    ensures { IfOk result (λ text. text ≡ refusal_bytes (UnknownColumn (str_to_ascii_lowercase column.now))) }
+{
+    let name = column.to_ascii_lowercase(alloc)?;
+    let refusal = Refusal::UnknownColumn(Word::from_str(alloc, name.as_str())?);
+    refusal_text(alloc, &refusal)
 }
 
 // What the count of a column between two bounds tells of an input.
@@ -24,7 +38,7 @@ pub(crate) fn tell_count(
     input: &[u8],
 ) -> Result<Told, AllocError>
     requires { length input.now ≤ 67108864 }
-    ensures line { IfOk result (λ told. string_bytes told.line ≡ (told_by (asked_of (Count bounds.entry)) input.now).printed) }
+    ensures line { IfOk result (λ told. told.line ≡ (told_by (asked_of (Count bounds.entry)) input.now).printed) }
     ensures refused { IfOk result (λ told. told.refused ≡ (told_by (asked_of (Count bounds.entry)) input.now).refused) }
 {
     match range_count(alloc, input, bounds.column, bounds.low, bounds.high) {
@@ -37,7 +51,7 @@ pub(crate) fn tell_count(
             refused: true,
         }),
         Err(RangeFault::BadInput) => Ok(Told {
-            line: not_built_line(alloc)?,
+            line: refusal_text(alloc, &Refusal::NotBuilt)?,
             refused: true,
         }),
         Err(RangeFault::Memory) => Err(AllocError),

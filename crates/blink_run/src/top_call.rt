@@ -62,7 +62,7 @@ pub fn run<R: Source, W: Sink, S: Store>(
         Ok(told) => told,
         Err(AllocError) => return Status::Memory,
     };
-    match write_all(output, told.line.as_bytes()) {
+    match write_all(output, told.line.as_slice()) {
         Err(Failed) => Status::WriteFault,
         Ok(()) if told.refused => Status::Refused,
         Ok(()) => Status::Done,

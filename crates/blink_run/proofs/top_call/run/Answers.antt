@@ -19,19 +19,19 @@ pub returns-in-Err-write_all-clause-ends : goal.returns-in-Err-write_all-clause-
 returns-in-Err-write_all-clause-ends g c =
     let asked : asked_by (map string_bytes c.args.words.now) ≡ asked_of (Count c.in-Count.bounds) = sym c.in-Count.ensures in
     let read = rw (← c.as_slice.ensures.value) at (c.in-Ok-Whole.ensures.whole (rw c.in-Ok-Whole.field-0-is refl)) in
-    let part = rw (c.as_bytes-2.ensures.value, c.in-Ok-tell_count.ensures.line) at c.in-Err-write_all.ensures.part in
+    let part = rw (c.as_slice-2.ensures, c.in-Ok-tell_count.ensures.line) at c.in-Err-write_all.ensures.part in
     rw asked (c.in-Err-write_all.ensures.cause.failed, (c.as_slice.result.now, read, part))
 
 pub returns-in-Ok-write_all-clause-ends : goal.returns-in-Ok-write_all-clause-ends
 returns-in-Ok-write_all-clause-ends g c =
     let asked : asked_by (map string_bytes c.args.words.now) ≡ asked_of (Count c.in-Count.bounds) = sym c.in-Count.ensures in
     let read = rw (← c.as_slice.ensures.value) at (c.in-Ok-Whole.ensures.whole (rw c.in-Ok-Whole.field-0-is refl)) in
-    let given = rw (c.as_bytes-2.ensures.value, c.in-Ok-tell_count.ensures.line) at c.in-Ok-write_all.ensures.all in
+    let given = rw (c.as_slice-2.ensures, c.in-Ok-tell_count.ensures.line) at c.in-Ok-write_all.ensures.all in
     rw asked (c.as_slice.result.now, read, given, rw (← c.in-Ok-tell_count.ensures.refused, c.if-told.true) refl)
 
 pub returns-clause-ends : goal.returns-clause-ends
 returns-clause-ends g c =
     let asked : asked_by (map string_bytes c.args.words.now) ≡ asked_of (Count c.in-Count.bounds) = sym c.in-Count.ensures in
     let read = rw (← c.as_slice.ensures.value) at (c.in-Ok-Whole.ensures.whole (rw c.in-Ok-Whole.field-0-is refl)) in
-    let given = rw (c.as_bytes-2.ensures.value, c.in-Ok-tell_count.ensures.line) at c.in-Ok-2.ensures.all in
+    let given = rw (c.as_slice-2.ensures, c.in-Ok-tell_count.ensures.line) at c.in-Ok-2.ensures.all in
     rw asked (c.as_slice.result.now, read, given, rw (← c.in-Ok-tell_count.ensures.refused, c.if-told.false) refl)
