@@ -88,6 +88,10 @@ abbrev pub range_over : List Record → List ℕ → ℤ → ℤ → Result ℕ 
 range_over [] name low high = Err unknown_column
 range_over (header ∷ rest) name low high = range_at (column_place name header) header rest low high
 
+-- the most bytes of a text whose records are counted
+abbrev pub longest_input : ℕ
+longest_input = 67108864
+
 -- the count over the records of a text, or the first refusal
 abbrev pub range_of : List ℕ → List ℕ → ℤ → ℤ → Result ℕ RangeRefusal
 range_of text name low high = range_over (records_of text) name low high

@@ -2,7 +2,7 @@
 ghost use Rattle.std.specs.Prelude.{◌≡◌, ◌≢◌, ◌≤◌, ◌<◌, ◌^◌, ℕ, [], Ok, Err, is_some, length, slice_index_or};
 ghost use Rattle.csv.specs.Records.{fields_of};
 ghost use Rattle.blink_loader.specs.Records.{same_name};
-ghost use Rattle.blink_loader.specs.Range.{range_of, range_over, count_below, told_range, record_fault, field_number, bad_field, is_counted, column_place};
+ghost use Rattle.blink_loader.specs.Range.{longest_input, range_of, range_over, count_below, told_range, record_fault, field_number, bad_field, is_counted, column_place};
 
 use crate::records::Records;
 use blink_base::{Kind, Value};
@@ -135,7 +135,8 @@ fn range_over(rows: &mut Records<'_>, column: &str, low: i64, high: i64) -> Resu
     count_below(rows, header.len(), at, low, high)
 }
 
-/// How many records of a CSV text have `low <= COLUMN <= high`, where every column is of whole numbers.
+/// How many records of a CSV text of at most 67,108,864 bytes have `low <= COLUMN <= high`, where every column is of whole
+/// numbers.
 ///
 /// The first record is the header; the column is the first of its fields that equals `column`, the case of ASCII letters
 /// apart. [`RangeFault::UnknownColumn`] comes exactly where there is none. [`RangeFault::BadInput`] comes exactly where
@@ -148,7 +149,7 @@ pub fn range_count(
     low: i64,
     high: i64,
 ) -> Result<u64, RangeFault>
-    requires { length bytes.now ≤ 67108864 }
+    requires { length bytes.now ≤ longest_input }
     ensures { result ≢ Err RangeFault.Memory → result ≡ told_range (range_of bytes.now column.now low high) }
 {
     let mut rows = Records::new(alloc, bytes);

@@ -3,13 +3,10 @@ use Rattle.std.specs.Prelude.{◌≡◌, ◌<◌, ◌≤◌, ◌+◌, ℕ, [], l
 use Rattle.std.specs.Io.KnownBytes.{Appends, Consumes, IsAtEnd, Keeps}
 use Rattle.blink_edge.specs.Causes.{Rose}
 use Rattle.report_text.specs.Texts.{Bytes}
+use Rattle.blink_loader.specs.Range.{longest_input}
 use Rattle.blink_run.specs.Program.{Asked, to_count, nothing_known, told_by, status_of}
 use Rattle.blink_run.specs.declared.status.Status.{Status}
 use Rattle.blink_run.specs.declared.status.Status.TheVariants as status
-
--- the most bytes of an input
-abbrev pub longest_input : ℕ
-longest_input = 67108864
 
 -- what an object of the outside shows: its bytes, where it tells them, and its count of faults
 pub record Shown : Type 0 where

@@ -2,6 +2,7 @@
 ghost use Rattle.std.specs.Prelude.{◌≡◌, ◌≤◌, length, true, false, IfOk};
 ghost use Rattle.std.specs.Str.{str_to_ascii_lowercase};
 ghost use Rattle.blink_base.specs.declared.refusal.Refusal.TheVariants.{UnknownColumn};
+ghost use Rattle.blink_loader.specs.Range.{longest_input};
 ghost use Rattle.report_text.specs.Texts.{refusal_bytes};
 ghost use Rattle.blink_run.specs.Program.{told_by};
 ghost use Rattle.blink_run.specs.Words.{asked_of};
@@ -37,7 +38,7 @@ pub(crate) fn tell_count(
     bounds: Bounds<'_>,
     input: &[u8],
 ) -> Result<Told, AllocError>
-    requires { length input.now ≤ 67108864 }
+    requires { length input.now ≤ longest_input }
     ensures line { IfOk result (λ told. told.line ≡ (told_by (asked_of (Count bounds.entry)) input.now).printed) }
     ensures refused { IfOk result (λ told. told.refused ≡ (told_by (asked_of (Count bounds.entry)) input.now).refused) }
 {
