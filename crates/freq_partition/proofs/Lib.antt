@@ -1,0 +1,11 @@
+pub mod Among
+pub mod Filled
+pub mod Greatest
+pub mod Least
+pub mod Ones
+pub mod Padded
+pub mod Placed
+pub mod Powers
+pub mod Searched
+pub mod Sums
+pub mod Tighter

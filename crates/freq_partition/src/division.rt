@@ -1,0 +1,58 @@
+//! The best division of ranked values.
+
+ghost use Rattle.std.specs.Prelude.{◌≡◌, ◌^◌, ◌≤◌, length, sum, All, IfOk, IsTrue};
+ghost use Rattle.freq_partition.specs.Candidate.{division_in};
+ghost use Rattle.freq_partition.specs.Division.{best_division, single_division, never_rises, IsLeastCost, padded};
+
+use crate::answer::{Cut, cut_of};
+use crate::candidate::{CLASS_COST, Classes};
+use crate::places::{Ranked, rows_of};
+use crate::search::{search_behind, width_of, with_rest};
+use std::alloc::{AllocError, Global};
+
+/// The most rows that a column may have. Source: this project's own.
+pub const MOST_ROWS: u64 = 8_388_608;
+
+/// The best division of values with these counts into one to four classes; none for no counts.
+///
+/// The counts are in the order of rank, each at least 1 and none above the one before, and their sum is at most
+/// [`MOST_ROWS`]. The division is the candidate of least cost, of equal cost the one with fewer classes, and then the one
+/// with the lexicographically least widths. No list of one to four sizes costs less. Source: after Raman et al., ICDE
+/// 2008; the candidates and their cost are this project's own.
+#[tactic(auto, using(crate::proofs::Least::costs_least, crate::proofs::Sums::length_le_sum))]
+pub fn cut(alloc: Global, counts: &[u64]) -> Result<Cut, AllocError>
+    requires positive { All (λ count. 1 ≤ count) counts.now }
+    requires ranked { IsTrue (never_rises counts.now) }
+    requires few { sum counts.now ≤ MOST_ROWS }
+    ensures count { IfOk result (λ cut. cut.count ≡ length (best_division counts.now).sizes) }
+    ensures sizes { IfOk result (λ cut. cut.sizes ≡ padded 4 (best_division counts.now).sizes) }
+    ensures cost { IfOk result (λ cut. cut.cost ≡ (best_division counts.now).cost) }
+    ensures least { IfOk result (λ cut. IsLeastCost counts.now cut.cost) }
+{
+    let ranked = Ranked::new(alloc, counts)?;
+    Ok(cut_of(&best_of(&ranked)))
+}
+
+/// The best division of these: up to three classes stand in front of the last.
+fn best_of(ranked: &Ranked<'_>) -> Classes
+    ensures { division_in result ≡ best_division ranked.now.counts.now }
+{
+    let none = Classes::none();
+    if ranked.counts.is_empty() {
+        return none;
+    }
+    let first = with_rest(ranked, &none, 0);
+    search_behind(ranked, &none, 0, 1, 3, first)
+}
+
+/// What all values in one class cost, for counts of at most [`MOST_ROWS`] rows in all; 0 where there are none. It takes no
+/// memory. Source: this project's own.
+pub fn single(counts: &[u64]) -> u64
+    requires { sum counts.now ≤ MOST_ROWS }
+    ensures { result ≡ (single_division counts.now).cost }
+{
+    if counts.is_empty() {
+        return 0;
+    }
+    u64::from(width_of(counts.len())) * rows_of(counts) + CLASS_COST
+}
