@@ -1,0 +1,10 @@
+pub mod Closings
+pub mod Contents
+pub mod Cuts
+pub mod Digits
+pub mod Fronts
+pub mod Kept
+pub mod Lexings
+pub mod Powers
+pub mod Prefixes
+pub mod Progress

@@ -1,0 +1,11 @@
+use Rattle.std.proofs.Common.{append_assoc, refl}
+use Rattle.star_lex.proofs.Contents.{quote_kept, byte_kept}
+use Rattle.star_lex.proofs.kinds.unpaired.Goals as goal
+use Rattle.star_lex.proofs.kinds.unpaired.Goals.{then-byte-eq39, else-byte-eq39}
+
+pub loop-at-preserved : goal.loop-at-preserved
+loop-at-preserved c =
+    elim c.if-byte-eq39.branch [
+      | then-byte-eq39 w ↦ rw (c.in_ok-push.ensures.items, w.at-is, append_assoc, ← quote_kept c.args.inside.now c.loop-at.at _ c.loop-at-test.true refl w.if-byte-eq39.true) c.loop-at.invariant
+      | else-byte-eq39 w ↦ rw (c.in_ok-push.ensures.items, w.at-is, append_assoc, ← byte_kept c.args.inside.now c.loop-at.at _ c.loop-at-test.true refl w.if-byte-eq39.false) c.loop-at.invariant
+    ]

@@ -1,0 +1,69 @@
+// The pieces of a script.
+ghost use Rattle.std.specs.Prelude.{◌≡◌, ◌≤◌, ◌<◌, ◌==◌, IfOk, length, drop};
+ghost use Rattle.std.specs.List.{position_or_len};
+ghost use Rattle.blink_base.specs.Words.{longest_script};
+ghost use Rattle.star_lex.specs.Pieces.{pieces_of, part_length};
+
+use crate::Place;
+use blink_base::List;
+use std::alloc::{AllocError, Global};
+
+// The bytes from a place on.
+pub(crate) fn behind(text: &[u8], at: usize) -> &[u8]
+    requires { at ≤ length text.now }
+    ensures { result.now ≡ drop at text.now }
+{
+    &text[at..]
+}
+
+// Where a byte first stands, or the number of bytes where it doesn't.
+pub(crate) fn place_of(byte: u8, bytes: &[u8]) -> usize
+    ensures value { result ≡ position_or_len (λ b. b == byte) bytes.now }
+    ensures within { result ≤ length bytes.now }
+{
+    for (at, b) in bytes.iter().enumerate() {
+        if *b == byte {
+            return at;
+        }
+    }
+    bytes.len()
+}
+
+// The length of the text, the comment or the other byte at the front.
+fn part_length(script: &[u8]) -> usize
+    requires { length script.now ≤ longest_script }
+    ensures value { result ≡ part_length script.now }
+    ensures within { result ≤ length script.now }
+{
+    match script {
+        [] => 0,
+        [b'\'', behind @ ..] => 1 + behind.len().min(place_of(b'\'', behind) + 1),
+        [b'-', b'-', behind @ ..] => 2 + place_of(b'\n', behind),
+        _ => 1,
+    }
+}
+
+/// Where the pieces of a script stand: what lies between its semicolons outside texts and comments.
+///
+/// A text runs from a `'` to the next one, or to the end of the script. A comment runs from `--`, outside a text, to
+/// the next line feed or the end. There is one piece more than there are such semicolons, and no piece holds one.
+/// A script has at most 67,108,864 bytes. Source: this project's own.
+pub fn pieces(alloc: Global, text: &[u8]) -> Result<List<Place>, AllocError>
+    requires { length text.now ≤ longest_script }
+    ensures { IfOk result (λ places. places ≡ pieces_of text.now) }
+{
+    let mut places = List::new(alloc);
+    let mut start = 0u32;
+    let mut at = 0u32;
+    while (at as usize) < text.len() {
+        if text[at as usize] == b';' {
+            places.push(Place { start, end: at })?;
+            at += 1;
+            start = at;
+        } else {
+            at += part_length(behind(text, at as usize)) as u32;
+        }
+    }
+    places.push(Place { start, end: at })?;
+    Ok(places)
+}
