@@ -15,6 +15,7 @@ mod word;
 
 pub use copied::Copied;
 pub use list::List;
+pub use numbers::whole_number;
 pub use op::Op;
 pub use refusal::Refusal;
 pub use value::{Kind, Value, ValueFault};

@@ -4,7 +4,7 @@ ghost use Rattle.std.specs.List.{list_all};
 ghost use Rattle.std.specs.Char.{is_ascii_digit};
 ghost use Rattle.std.specs.Str.Parse.{digits_value};
 ghost use Rattle.blink_base.specs.Numbers.{has_minus, is_digits, significant, without_minus, most_digits};
-ghost use Rattle.blink_base.specs.Read.{read_number};
+ghost use Rattle.blink_base.specs.Read.{read_number, whole_number};
 
 use crate::ValueFault;
 
@@ -87,4 +87,15 @@ pub(crate) fn read_number(text: &[u8]) -> Result<i64, ValueFault>
         return Err(ValueFault::TooLong);
     }
     Ok(signed(has_minus(text), magnitude(digits)))
+}
+
+/// The whole number that the bytes of a text say, where they say one: the value of [`Value::read`](crate::Value::read).
+/// It takes no memory. Source: this project's own.
+pub fn whole_number(bytes: &[u8]) -> Option<i64>
+    ensures { result ≡ whole_number bytes.now }
+{
+    match read_number(bytes) {
+        Ok(number) => Some(number),
+        Err(_) => None,
+    }
 }

@@ -1,10 +1,7 @@
 -- How many records of a CSV text have a column within bounds, or the first refusal. Source: this project's own.
 use Rattle.std.specs.Prelude.{ℕ, ◌+◌, ℤ, int_le, Bool, true, false, ◌&&◌, ◌==◌, List, [], ◌∷◌, length, count_by, Option, Some, None, Result, Ok, Err, slice_index_or}
 use Rattle.std.specs.List.{position_from}
-use Rattle.blink_base.specs.Read.{read_int}
-use Rattle.blink_base.specs.declared.value.Value.{Value}
-use Rattle.blink_base.specs.declared.value.Value.TheVariants as value
-use Rattle.blink_base.specs.declared.value.ValueFault.{ValueFault}
+use Rattle.blink_base.specs.Read.{whole_number}
 use Rattle.blink_loader.specs.declared.range.RangeFault.{RangeFault}
 use Rattle.blink_loader.specs.declared.range.RangeFault.TheVariants as fault
 use Rattle.blink_loader.specs.Records.{Record, records_of, same_name}
@@ -19,15 +16,6 @@ pub data RangeRefusal : Type 0 where
   unknown_column : RangeRefusal
   bad_record : RecordFault → RangeRefusal
 
--- the whole number that a value is
-abbrev pub number_if : Result Value ValueFault → Option ℤ
-number_if (Ok (value.Int n)) = Some n
-number_if (Err why) = None
-
--- the whole number that a field's bytes say
-abbrev pub field_number : List ℕ → Option ℤ
-field_number field = number_if (read_int field)
-
 -- whether a field says no whole number
 abbrev pub is_bad : Option ℤ → Bool
 is_bad None = true
@@ -35,7 +23,7 @@ is_bad (Some n) = false
 
 -- the first field of a record that says none, counted from 1
 abbrev pub bad_field : Record → Option ℕ
-bad_field fields = position_from (λ field. is_bad (field_number field)) 1 fields
+bad_field fields = position_from (λ field. is_bad (whole_number field)) 1 fields
 
 -- the fault of a field, where there is one
 abbrev pub bad_value_if : ℕ → Option ℕ → Option RecordFault
@@ -63,7 +51,7 @@ is_within low high (Some n) = int_le low n && int_le n high
 
 -- whether a record has the column within the bounds
 abbrev pub is_counted : ℕ → ℤ → ℤ → Record → Bool
-is_counted column low high fields = is_within low high (field_number (slice_index_or fields column []))
+is_counted column low high fields = is_within low high (whole_number (slice_index_or fields column []))
 
 -- the count, where there is no fault
 abbrev pub count_unless : Option RecordFault → ℕ → Result ℕ RangeRefusal

@@ -1,11 +1,12 @@
 // How many records of a text have a column within bounds.
 ghost use Rattle.std.specs.Prelude.{◌≡◌, ◌≢◌, ◌≤◌, ◌<◌, ◌^◌, ℕ, [], Ok, Err, is_some, length, slice_index_or};
 ghost use Rattle.csv.specs.Records.{fields_of};
+ghost use Rattle.blink_base.specs.Read.{whole_number};
 ghost use Rattle.blink_loader.specs.Records.{same_name};
-ghost use Rattle.blink_loader.specs.Range.{longest_input, range_of, range_over, count_below, told_range, record_fault, field_number, bad_field, is_counted, column_place};
+ghost use Rattle.blink_loader.specs.Range.{longest_input, range_of, range_over, count_below, told_range, record_fault, bad_field, is_counted, column_place};
 
 use crate::records::Records;
-use blink_base::{Kind, Value};
+use blink_base::whole_number;
 use csv::ByteRecord;
 use std::alloc::Global;
 use thiserror::Error;
@@ -52,22 +53,12 @@ fn column_place(header: &ByteRecord, column: &str) -> Option<usize>
     None
 }
 
-// The whole number that a field says.
-fn field_number(field: &[u8]) -> Option<i64>
-    ensures { result ≡ field_number field.now }
-{
-    match Value::read(Kind::Int, field) {
-        Ok(Value::Int(number)) => Some(number),
-        Err(_) => None,
-    }
-}
-
 // Whether some field says no whole number.
 fn has_bad_field(row: &ByteRecord) -> bool
     ensures { result ≡ is_some (bad_field (fields_of row.now)) }
 {
     for at in 0..row.len() {
-        if field_number(field_of(row, at)).is_none() {
+        if whole_number(field_of(row, at)).is_none() {
             return true;
         }
     }
@@ -84,7 +75,7 @@ fn is_faulty(width: usize, row: &ByteRecord) -> bool
 fn is_counted(column: usize, low: i64, high: i64, row: &ByteRecord) -> bool
     ensures { result ≡ is_counted column low high (fields_of row.now) }
 {
-    match field_number(field_of(row, column)) {
+    match whole_number(field_of(row, column)) {
         Some(number) => low <= number && number <= high,
         None => false,
     }

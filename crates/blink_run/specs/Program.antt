@@ -2,8 +2,9 @@
 use Rattle.std.specs.Prelude.{ℕ, ℤ, Bool, true, false, List, [], ◌∷◌, codes, Option, Some, None, Result, Ok, Err, if◌then◌else◌}
 use Rattle.std.specs.Str.{bytes_eq, str_to_ascii_lowercase}
 use Rattle.blink_base.specs.declared.refusal.Refusal.TheVariants as refusal
+use Rattle.blink_base.specs.Read.{whole_number}
 use Rattle.report_text.specs.Texts.{Bytes, refusal_bytes, number_bytes, usage_bytes}
-use Rattle.blink_loader.specs.Range.{RangeRefusal, unknown_column, bad_record, range_of, field_number}
+use Rattle.blink_loader.specs.Range.{RangeRefusal, unknown_column, bad_record, range_of}
 use Rattle.blink_run.specs.declared.status.Status.{Status}
 use Rattle.blink_run.specs.declared.status.Status.TheVariants as status
 
@@ -23,7 +24,7 @@ abbrev pub count_form : List Bytes → Asked
 count_form [] = nothing_known
 count_form (column ∷ []) = nothing_known
 count_form (column ∷ low ∷ []) = nothing_known
-count_form (column ∷ low ∷ high ∷ []) = count_asked column (field_number low) (field_number high)
+count_form (column ∷ low ∷ high ∷ []) = count_asked column (whole_number low) (whole_number high)
 count_form (column ∷ low ∷ high ∷ more ∷ words) = nothing_known
 
 -- what the words of the command line ask for

@@ -1,9 +1,9 @@
 // The words of the command line.
 ghost use Rattle.std.specs.Prelude.{◌≡◌, map, string_bytes};
-ghost use Rattle.blink_loader.specs.Range.{field_number};
+ghost use Rattle.blink_base.specs.Read.{whole_number};
 ghost use Rattle.blink_run.specs.Program.{asked_by, count_asked};
 
-use blink_base::{Kind, Value};
+use blink_base::whole_number;
 
 // A column, and the least and the greatest number that count.
 #[derive(Clone, Copy)]
@@ -22,23 +22,14 @@ pub(crate) enum Request<'a> {
     Unknown,
 }
 
-fn whole_number(text: &str) -> Option<i64>
-    ensures { result ≡ field_number text.now }
-{
-    match Value::read(Kind::Int, text.as_bytes()) {
-        Ok(Value::Int(number)) => Some(number),
-        Err(_) => None,
-    }
-}
-
 impl<'a> Request<'a> {
     ghost use Rattle.blink_run.specs.Words.{asked_of};
 
     // The count between two bounds, where both are whole numbers.
     fn count(column: &'a str, low: &str, high: &str) -> Request<'a>
-        ensures { asked_of result ≡ count_asked column.now (field_number low.now) (field_number high.now) }
+        ensures { asked_of result ≡ count_asked column.now (whole_number low.now) (whole_number high.now) }
     {
-        match (whole_number(low), whole_number(high)) {
+        match (whole_number(low.as_bytes()), whole_number(high.as_bytes())) {
             (Some(low), Some(high)) => Request::Count(Bounds { column, low, high }),
             _ => Request::Unknown,
         }

@@ -1,5 +1,5 @@
 -- What is kept of the front of some bytes, by the first byte.
-use Rattle.std.proofs.Common.{◌≡◌, ◌≢◌, ◌≤◌, ◌<◌, ◌+◌, ◌∙◌, ℕ, zero, suc, Bool, true, false, ◌&&◌, List, [], ◌∷◌, Option, Some, None, is_some, Ok, length, take, drop, get_or, eqb, cond, ap, inl, refl, arith}
+use Rattle.std.proofs.Common.{◌≡◌, ◌≢◌, ◌≤◌, ◌<◌, ◌+◌, ◌∙◌, ℕ, zero, suc, Bool, true, false, ◌&&◌, List, [], ◌∷◌, Option, Some, None, is_some, Ok, Err, length, take, drop, get_or, eqb, cond, ap, inl, refl, arith}
 use Rattle.std.specs.List.{list_all, prefix_len, position_or_len}
 use Rattle.std.specs.Option.{option_or, option_map_or}
 use Rattle.std.specs.Char.{is_ascii_digit}
@@ -7,6 +7,7 @@ use Rattle.std.proofs.lemmas.Bool.{ne_eqb}
 use Rattle.std.proofs.lemmas.List.{length-take-le}
 use Rattle.blink_base.specs.Words.{begins_name, is_name_byte}
 use Rattle.star_lex.specs.declared.token.Mark.{Mark}
+use Rattle.star_lex.specs.declared.token.LexFault.TheVariants as fault
 use Rattle.star_lex.specs.Forms.{blank, a_name, a_number, a_text, form_if, form_of, mark_form, mark_of_bytes, is_blank, kept_of}
 use Rattle.star_lex.specs.Lex.{front_length, closed_length, other_length, kept_mark, kept_if_formed, kept_of_front}
 use Rattle.star_lex.proofs.Prefixes.{all_within}
@@ -37,7 +38,16 @@ pub number_all : (left : List ℕ) (n : ℕ) → 0 < length left → n ≡ front
 number_all [] n some is e f = absurd (omega arith)
 number_all (b ∷ rest) n some is e f = rw (is, number_length b rest e f, f) (all_within is_ascii_digit rest)
 
+-- a number has a digit
+pub number_some : (left : List ℕ) (n : ℕ) → 0 < length left → n ≡ front_length left → begins_name (get_or left 0 0) ≡ false → is_ascii_digit (get_or left 0 0) ≡ true → 0 < length (take n left)
+number_some [] n some front plain digit = absurd (omega (arith, some))
+number_some (b ∷ rest) n some front plain digit = rw (front, number_length b rest plain digit) (omega arith)
+
 -- a text, or one that is not closed
+pub text_open : (left : List ℕ) (n at : ℕ) → 0 < length left → get_or left 0 0 ≡ 39 → n ≡ 0 → kept_of_front n at left ≡ Err (fault.OpenText at)
+text_open [] n at some is e = absurd (omega arith)
+text_open (b ∷ rest) n at some is e = rw (e, is) refl
+
 closed_kept : (rest : List ℕ) (o : Option ℕ) (at : ℕ) → EndsText rest o → option_map_or (λ n. n + 1) o 0 ≢ 0
     → (2 ≤ length (take (option_map_or (λ n. n + 1) o 0) (39 ∷ rest)))
     × (kept_of_front (option_map_or (λ n. n + 1) o 0) at (39 ∷ rest) ≡ kept_of a_text (take (option_map_or (λ n. n + 1) o 0) (39 ∷ rest)) at)

@@ -5,6 +5,5 @@ pub mod Digits
 pub mod Fronts
 pub mod Kept
 pub mod Lexings
-pub mod Powers
 pub mod Prefixes
 pub mod Progress

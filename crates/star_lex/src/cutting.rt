@@ -1,8 +1,8 @@
 // The pieces of a script.
-ghost use Rattle.std.specs.Prelude.{◌≡◌, ◌≤◌, ◌<◌, ◌==◌, IfOk, length, drop};
+ghost use Rattle.std.specs.Prelude.{◌≡◌, ◌≤◌, ◌<◌, ◌==◌, ◌+◌, IfOk, length, drop, take};
 ghost use Rattle.std.specs.List.{position_or_len};
 ghost use Rattle.blink_base.specs.Words.{longest_script};
-ghost use Rattle.star_lex.specs.Pieces.{pieces_of, part_length};
+ghost use Rattle.star_lex.specs.Pieces.{pieces_of, part_length, quote, line_feed};
 
 use crate::Place;
 use blink_base::List;
@@ -17,7 +17,7 @@ pub(crate) fn behind(text: &[u8], at: usize) -> &[u8]
 }
 
 // Where a byte first stands, or the number of bytes where it doesn't.
-pub(crate) fn place_of(byte: u8, bytes: &[u8]) -> usize
+fn place_of(byte: u8, bytes: &[u8]) -> usize
     ensures value { result ≡ position_or_len (λ b. b == byte) bytes.now }
     ensures within { result ≤ length bytes.now }
 {
@@ -29,6 +29,22 @@ pub(crate) fn place_of(byte: u8, bytes: &[u8]) -> usize
     bytes.len()
 }
 
+// How far a text goes on behind its first quote, the quote that ends it included.
+fn text_length(bytes: &[u8]) -> usize
+    ensures value { result ≡ length (take (position_or_len (λ b. b == quote) bytes.now + 1) bytes.now) }
+    ensures within { result ≤ length bytes.now }
+{
+    bytes.len().min(place_of(b'\'', bytes) + 1)
+}
+
+// How far a comment goes on behind its dashes.
+pub(crate) fn comment_length(bytes: &[u8]) -> usize
+    ensures value { result ≡ position_or_len (λ b. b == line_feed) bytes.now }
+    ensures within { result ≤ length bytes.now }
+{
+    place_of(b'\n', bytes)
+}
+
 // The length of the text, the comment or the other byte at the front.
 fn part_length(script: &[u8]) -> usize
     requires { length script.now ≤ longest_script }
@@ -37,8 +53,8 @@ fn part_length(script: &[u8]) -> usize
 {
     match script {
         [] => 0,
-        [b'\'', behind @ ..] => 1 + behind.len().min(place_of(b'\'', behind) + 1),
-        [b'-', b'-', behind @ ..] => 2 + place_of(b'\n', behind),
+        [b'\'', behind @ ..] => 1 + text_length(behind),
+        [b'-', b'-', behind @ ..] => 2 + comment_length(behind),
         _ => 1,
     }
 }

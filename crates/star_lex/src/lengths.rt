@@ -7,7 +7,7 @@ ghost use Rattle.star_lex.specs.Forms.{mark_of_bytes};
 ghost use Rattle.star_lex.specs.Lex.{closed_length, other_length, front_length};
 
 use crate::Mark;
-use crate::cutting::{behind, place_of};
+use crate::cutting::{behind, comment_length};
 
 pub(crate) fn begins_name(byte: u8) -> bool
     ensures { result ≡ begins_name byte }
@@ -116,7 +116,7 @@ fn other_length(left: &[u8]) -> usize
     match left {
         [] => 0,
         [_] => 1,
-        [b'-', b'-', comment @ ..] => 2 + place_of(b'\n', comment),
+        [b'-', b'-', comment @ ..] => 2 + comment_length(comment),
         [first, second, ..] => {
             if long_mark(*first, *second).is_some() {
                 2

@@ -2,7 +2,7 @@ use super::*;
 use std::alloc::{AllocError, Global};
 use std::test::Fail;
 
-// A token as its kind, its content and its place, or the fault.
+// Each token as its kind, its content and its place, or the fault.
 fn shown(alloc: Global, piece: &[u8]) -> Result<String, AllocError> {
     let mut line = String::new(alloc);
     if piece.len() > 100 {

@@ -1,21 +1,17 @@
-use Rattle.std.proofs.Common.{SFits, ◌∙◌, ap, sym, refl, w64}
 use Rattle.std.specs.Str.Parse.{digits_value}
-use Rattle.std.proofs.lemmas.Bool.{leb-true, not-false}
-use Rattle.std.proofs.lemmas.Int.{to_z-of_z}
-use Rattle.star_lex.proofs.Digits.{significant_digits, significant_value}
+use Rattle.std.proofs.Common.{pos, length, nat_le, sym}
+use Rattle.blink_base.specs.Numbers.{significant, most_digits}
+use Rattle.star_lex.proofs.Digits.{digits_say, kept_number, kept_fault}
 use Rattle.star_lex.proofs.numbers.number.Goals as goal
 
-pub magnitude-requires-clause-all : goal.magnitude-requires-clause-all
-magnitude-requires-clause-all c = rw c.significant.ensures (significant_digits c.args.digits.now c.requires)
-
-pub magnitude-requires-clause-few : goal.magnitude-requires-clause-few
-magnitude-requires-clause-few c = rw c.significant.ensures (leb-true _ _ (not-false _ (sym c.if-is_long.ensures)))
-
-pub returns : goal.returns
-returns c =
+pub returns-in-Some : goal.returns-in-Some
+returns-in-Some c =
     let digits = c.args.digits.now in
-    let few = not-false _ (sym c.if-is_long.ensures) in
-    let value = c.magnitude.ensures.value ∙ ap (digits_value 10) c.significant.ensures ∙ significant_value digits in
-    let number = rw value at c.signed-number.ensures in
-    let fits : SFits w64 c.signed-number.result = record { sfits = c.signed-number.type_inv } in
-    rw (few, to_z-of_z w64 c.signed-number.result fits, number) refl
+    kept_number (nat_le (length (significant digits)) most_digits) (pos (digits_value 10 digits)) c.args.at c.in-Some.token
+    (rw (digits_say digits c.requires.some c.requires.all) at c.in-Some.ensures)
+
+pub returns-in-None : goal.returns-in-None
+returns-in-None c =
+    let digits = c.args.digits.now in
+    kept_fault (nat_le (length (significant digits)) most_digits) (pos (digits_value 10 digits)) c.args.at
+    (sym (rw (digits_say digits c.requires.some c.requires.all) at c.in-None.ensures))
