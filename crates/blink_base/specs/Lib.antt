@@ -3,3 +3,4 @@ pub mod Numbers
 pub mod Read
 pub mod Texts
 pub mod Words
+pub mod formers

@@ -4,6 +4,7 @@
 //! value has a kind. A kind says which texts say its values, how a value is kept, and how values are ordered.
 #![tactic(auto)]
 
+mod boxed;
 mod copied;
 pub mod examples;
 mod list;
@@ -13,6 +14,7 @@ mod refusal;
 mod value;
 mod word;
 
+pub use boxed::Boxed;
 pub use copied::Copied;
 pub use list::List;
 pub use numbers::whole_number;

@@ -1,0 +1,5 @@
+use Rattle.star_sql.proofs.Prefixes.{by_prefixes}
+use Rattle.star_sql.proofs.laws.depth_by_prefixes.Goals as goal
+
+pub returns : goal.returns
+returns c = by_prefixes

@@ -1,0 +1,6 @@
+pub mod Conditions
+pub mod Examples
+pub mod Fronts
+pub mod Reading
+pub mod Spelling
+pub mod WellFormed

@@ -1,0 +1,141 @@
+// What stands at the front of some tokens, and the tokens behind it.
+ghost use Rattle.std.specs.Prelude.{◌≡◌, Some, None};
+ghost use Rattle.star_sql.specs.Reading.{kinds_of, opens, closes};
+ghost use Rattle.star_sql.specs.Fronts.{Finds, Gives, behind, is_word, is_comma, is_minus, name_at, text_at, kind_at, key_at};
+
+use crate::ParseFault;
+use crate::words::{is_name, kind_of_word};
+use blink_base::{Kind, Word};
+use star_lex::{Mark, Token, TokenKind};
+use std::alloc::Global;
+
+#[tactic(auto, unfolding(crate::specs::Fronts::behind))]
+fn found_word<'a>(word: &str, tokens: &'a [Token]) -> Option<&'a [Token]>
+    ensures { Finds (λ r. kinds_of r.now) result (behind (is_word word.now) (kinds_of tokens.now)) }
+{
+    match tokens {
+        [
+            Token {
+                kind: TokenKind::Name(name),
+                ..
+            },
+            rest @ ..,
+        ] if name.as_str() == word => Some(rest),
+        _ => None,
+    }
+}
+
+pub(crate) fn word<'a>(word: &str, tokens: &'a [Token]) -> Result<&'a [Token], ParseFault>
+    ensures { Gives (λ r. kinds_of r.now) result (behind (is_word word.now) (kinds_of tokens.now)) }
+{
+    found_word(word, tokens).ok_or(ParseFault::Syntax)
+}
+
+#[tactic(auto, unfolding(crate::specs::Fronts::behind))]
+pub(crate) fn comma(tokens: &[Token]) -> Option<&[Token]>
+    ensures { Finds (λ r. kinds_of r.now) result (behind is_comma (kinds_of tokens.now)) }
+{
+    match tokens {
+        [
+            Token {
+                kind: TokenKind::Symbol(Mark::Comma),
+                ..
+            },
+            rest @ ..,
+        ] => Some(rest),
+        _ => None,
+    }
+}
+
+#[tactic(auto, unfolding(crate::specs::Fronts::behind))]
+pub(crate) fn left(tokens: &[Token]) -> Result<&[Token], ParseFault>
+    ensures { Gives (λ r. kinds_of r.now) result (behind opens (kinds_of tokens.now)) }
+{
+    match tokens {
+        [
+            Token {
+                kind: TokenKind::Symbol(Mark::Left),
+                ..
+            },
+            rest @ ..,
+        ] => Ok(rest),
+        _ => Err(ParseFault::Syntax),
+    }
+}
+
+#[tactic(auto, unfolding(crate::specs::Fronts::behind))]
+pub(crate) fn right(tokens: &[Token]) -> Result<&[Token], ParseFault>
+    ensures { Gives (λ r. kinds_of r.now) result (behind closes (kinds_of tokens.now)) }
+{
+    match tokens {
+        [
+            Token {
+                kind: TokenKind::Symbol(Mark::Right),
+                ..
+            },
+            rest @ ..,
+        ] => Ok(rest),
+        _ => Err(ParseFault::Syntax),
+    }
+}
+
+#[tactic(auto, unfolding(crate::specs::Fronts::name_at))]
+pub(crate) fn name(alloc: Global, tokens: &[Token]) -> Result<(Word, &[Token]), ParseFault>
+    ensures { Gives (λ x. (x.0, kinds_of x.1.now)) result (name_at (kinds_of tokens.now)) }
+{
+    match tokens {
+        [
+            Token {
+                kind: TokenKind::Name(word),
+                ..
+            },
+            rest @ ..,
+        ] if is_name(word.as_str()) => { Ok((word.copy(alloc)?, rest)) }
+        _ => Err(ParseFault::Syntax),
+    }
+}
+
+#[tactic(auto, unfolding(crate::specs::Fronts::text_at))]
+pub(crate) fn text(alloc: Global, tokens: &[Token]) -> Result<(Word, &[Token]), ParseFault>
+    ensures { Gives (λ x. (x.0, kinds_of x.1.now)) result (text_at (kinds_of tokens.now)) }
+{
+    match tokens {
+        [
+            Token {
+                kind: TokenKind::Text(word),
+                ..
+            },
+            rest @ ..,
+        ] => Ok((word.copy(alloc)?, rest)),
+        _ => Err(ParseFault::Syntax),
+    }
+}
+
+#[tactic(auto, unfolding(crate::specs::Fronts::kind_at))]
+pub(crate) fn kind(tokens: &[Token]) -> Result<(Kind, &[Token]), ParseFault>
+    ensures { Gives (λ x. (x.0, kinds_of x.1.now)) result (kind_at (kinds_of tokens.now)) }
+{
+    match tokens {
+        [
+            Token {
+                kind: TokenKind::Name(word),
+                ..
+            },
+            rest @ ..,
+        ] => match kind_of_word(word.as_str()) {
+            Some(kind) => Ok((kind, rest)),
+            None => Err(ParseFault::Syntax),
+        },
+        _ => Err(ParseFault::Syntax),
+    }
+}
+
+#[tactic(auto, unfolding(crate::specs::Fronts::key_at))]
+pub(crate) fn key(tokens: &[Token]) -> Result<(bool, &[Token]), ParseFault>
+    ensures { Gives (λ x. (x.0, kinds_of x.1.now)) result (key_at (kinds_of tokens.now)) }
+{
+    match found_word("primary", tokens) {
+        Some(rest) => Ok((true, word("key", rest)?)),
+        None => Ok((false, tokens)),
+    }
+}

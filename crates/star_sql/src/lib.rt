@@ -1,0 +1,24 @@
+//! Statements as they are written: their types, their spelling, and the parser that is its inverse.
+#![tactic(auto)]
+
+mod ast;
+mod depth;
+pub mod examples;
+mod fault;
+mod fronts;
+mod laws;
+mod lists;
+mod parsing;
+mod statements;
+mod words;
+
+pub use ast::{
+    ColumnDef, ColumnName, Cond, Conj, Expr, Item, Literal, OrderKey, Primary, Select, Statement,
+    TestWords, Way, What,
+};
+pub use fault::ParseFault;
+pub use laws::{depth_by_prefixes, one_spelling};
+pub use parsing::parse;
+
+#[cfg(test)]
+mod tests;

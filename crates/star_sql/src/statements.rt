@@ -1,0 +1,226 @@
+// The statements, by their first words.
+ghost use Rattle.std.specs.Prelude.{◌≡◌};
+ghost use Rattle.star_sql.specs.Reading.{kinds_of};
+ghost use Rattle.star_sql.specs.Fronts.{Gives, number_at, date_at, literal_at, definition_at, enclosed_at, named_at, filed_at, create_at, insert_at, behind_word, statement_at};
+
+use crate::fronts::{key, kind, name, text, word};
+use crate::lists::{Front, enclosed, listed};
+use crate::{ColumnDef, Literal, ParseFault, Statement};
+use blink_base::{List, Word};
+use star_lex::{Mark, Token, TokenKind};
+use std::alloc::Global;
+
+#[tactic(auto, unfolding(crate::specs::Fronts::number_at))]
+fn number(minus: bool, tokens: &[Token]) -> Result<(Literal, &[Token]), ParseFault>
+    ensures { Gives (λ x. (x.0, kinds_of x.1.now)) result (number_at minus (kinds_of tokens.now)) }
+{
+    match tokens {
+        [
+            Token {
+                kind: TokenKind::Number(value),
+                ..
+            },
+            rest @ ..,
+        ] if 0 <= *value && *value < 1_000_000_000_000_000 => {
+            Ok((
+                Literal::Number {
+                    minus,
+                    value: *value,
+                },
+                rest,
+            ))
+        }
+        _ => Err(ParseFault::Syntax),
+    }
+}
+
+#[tactic(auto, unfolding(crate::specs::Fronts::date_at))]
+fn date(alloc: Global, tokens: &[Token]) -> Result<(Literal, &[Token]), ParseFault>
+    ensures { Gives (λ x. (x.0, kinds_of x.1.now)) result (date_at (kinds_of tokens.now)) }
+{
+    let (date, rest) = text(alloc, tokens)?;
+    Ok((Literal::Date(date), rest))
+}
+
+#[tactic(auto, unfolding(crate::specs::Fronts::literal_at))]
+fn literal(alloc: Global, tokens: &[Token]) -> Result<(Literal, &[Token]), ParseFault>
+    ensures { Gives (λ x. (x.0, kinds_of x.1.now)) result (literal_at (kinds_of tokens.now)) }
+{
+    match tokens {
+        [
+            Token {
+                kind: TokenKind::Number(_),
+                ..
+            },
+            ..
+        ] => number(false, tokens),
+        [
+            Token {
+                kind: TokenKind::Symbol(Mark::Minus),
+                ..
+            },
+            rest @ ..,
+        ] => number(true, rest),
+        [
+            Token {
+                kind: TokenKind::Text(word),
+                ..
+            },
+            rest @ ..,
+        ] => Ok((Literal::Text(word.copy(alloc)?), rest)),
+        [
+            Token {
+                kind: TokenKind::Name(word),
+                ..
+            },
+            rest @ ..,
+        ] if word.as_str() == "date" => date(alloc, rest),
+        _ => Err(ParseFault::Syntax),
+    }
+}
+
+impl Front for Literal {
+    ghost use Rattle.star_sql.specs.Fronts.{literal_at};
+
+    ghost reads = { literal_at };
+
+    fn front(alloc: Global, tokens: &[Token]) -> Result<(Literal, &[Token]), ParseFault> {
+        literal(alloc, tokens)
+    }
+}
+
+impl Front for List<Literal> {
+    ghost use Rattle.star_sql.specs.Fronts.{enclosed_at, literal_at};
+
+    ghost reads = { enclosed_at literal_at };
+
+    fn front(alloc: Global, tokens: &[Token]) -> Result<(List<Literal>, &[Token]), ParseFault> {
+        enclosed(alloc, tokens)
+    }
+}
+
+#[tactic(auto, unfolding(crate::specs::Fronts::definition_at))]
+fn definition(alloc: Global, tokens: &[Token]) -> Result<(ColumnDef, &[Token]), ParseFault>
+    ensures { Gives (λ x. (x.0, kinds_of x.1.now)) result (definition_at (kinds_of tokens.now)) }
+{
+    let (name, rest) = name(alloc, tokens)?;
+    let (kind, rest) = kind(rest)?;
+    let (key, rest) = key(rest)?;
+    Ok((ColumnDef { name, kind, key }, rest))
+}
+
+impl Front for ColumnDef {
+    ghost use Rattle.star_sql.specs.Fronts.{definition_at};
+
+    ghost reads = { definition_at };
+
+    fn front(alloc: Global, tokens: &[Token]) -> Result<(ColumnDef, &[Token]), ParseFault> {
+        definition(alloc, tokens)
+    }
+}
+
+#[tactic(auto, unfolding(crate::specs::Fronts::named_at))]
+fn named<'a>(
+    alloc: Global,
+    first: &str,
+    tokens: &'a [Token],
+) -> Result<(Word, &'a [Token]), ParseFault>
+    ensures { Gives (λ x. (x.0, kinds_of x.1.now)) result (named_at first.now (kinds_of tokens.now)) }
+{
+    name(alloc, word(first, tokens)?)
+}
+
+#[tactic(auto, unfolding(crate::specs::Fronts::filed_at))]
+fn filed<'a>(
+    alloc: Global,
+    first: &str,
+    second: &str,
+    tokens: &'a [Token],
+) -> Result<(Word, Word, &'a [Token]), ParseFault>
+    ensures { Gives (λ x. ((x.0, x.1), kinds_of x.2.now)) result (filed_at first.now second.now (kinds_of tokens.now)) }
+{
+    let (name, rest) = named(alloc, first, tokens)?;
+    let (file, rest) = text(alloc, word(second, rest)?)?;
+    Ok((name, file, rest))
+}
+
+#[tactic(auto, unfolding(crate::specs::Fronts::create_at))]
+fn create(alloc: Global, tokens: &[Token]) -> Result<(Statement, &[Token]), ParseFault>
+    ensures { Gives (λ x. (x.0, kinds_of x.1.now)) result (create_at (kinds_of tokens.now)) }
+{
+    let (name, rest) = named(alloc, "table", tokens)?;
+    let (columns, rest) = enclosed::<ColumnDef>(alloc, rest)?;
+    Ok((Statement::Create { name, columns }, rest))
+}
+
+#[tactic(auto, unfolding(crate::specs::Fronts::insert_at))]
+fn insert(alloc: Global, tokens: &[Token]) -> Result<(Statement, &[Token]), ParseFault>
+    ensures { Gives (λ x. (x.0, kinds_of x.1.now)) result (insert_at (kinds_of tokens.now)) }
+{
+    let (name, rest) = named(alloc, "into", tokens)?;
+    let (rows, rest) = listed::<List<Literal>>(alloc, word("values", rest)?)?;
+    Ok((Statement::Insert { name, rows }, rest))
+}
+
+// What stands behind the first word of a statement.
+#[tactic(auto, unfolding(crate::specs::Fronts::behind_word))]
+fn behind_word<'a>(
+    alloc: Global,
+    verb: &str,
+    tokens: &'a [Token],
+) -> Result<(Statement, &'a [Token]), ParseFault>
+    ensures { Gives (λ x. (x.0, kinds_of x.1.now)) result (behind_word verb.now (kinds_of tokens.now)) }
+{
+    match verb {
+        "create" => create(alloc, tokens),
+        "drop" => {
+            let (name, rest) = named(alloc, "table", tokens)?;
+            Ok((Statement::Drop { name }, rest))
+        }
+        "load" => {
+            let (name, file, rest) = filed(alloc, "into", "from", tokens)?;
+            Ok((Statement::Load { name, file }, rest))
+        }
+        "append" => {
+            let (name, file, rest) = filed(alloc, "into", "from", tokens)?;
+            Ok((Statement::Append { name, file }, rest))
+        }
+        "insert" => insert(alloc, tokens),
+        "reorganize" => {
+            let (name, rest) = named(alloc, "table", tokens)?;
+            Ok((Statement::Reorganize { name }, rest))
+        }
+        "describe" => {
+            let (name, rest) = name(alloc, tokens)?;
+            Ok((Statement::Describe { name }, rest))
+        }
+        "export" => {
+            let (name, file, rest) = filed(alloc, "table", "to", tokens)?;
+            Ok((Statement::Export { name, file }, rest))
+        }
+        "import" => {
+            let (name, file, rest) = filed(alloc, "table", "from", tokens)?;
+            Ok((Statement::Import { name, file }, rest))
+        }
+        _ => Err(ParseFault::Syntax),
+    }
+}
+
+#[tactic(auto, unfolding(crate::specs::Fronts::statement_at))]
+pub(crate) fn statement(
+    alloc: Global,
+    tokens: &[Token],
+) -> Result<(Statement, &[Token]), ParseFault>
+    ensures { Gives (λ x. (x.0, kinds_of x.1.now)) result (statement_at (kinds_of tokens.now)) }
+{
+    match tokens {
+        [
+            Token {
+                kind: TokenKind::Name(verb),
+                ..
+            },
+            rest @ ..,
+        ] => behind_word(alloc, verb.as_str(), rest),
+        _ => Err(ParseFault::Syntax),
+    }
+}

@@ -1,0 +1,88 @@
+// Which words are names, and which words are kinds.
+ghost use Rattle.std.specs.Prelude.{◌≡◌, ◌&&◌, not, ◌≤◌, nat_le, length};
+ghost use Rattle.std.specs.List.{list_all, list_any};
+ghost use Rattle.std.specs.Str.{bytes_eq};
+ghost use Rattle.std.specs.Char.{is_ascii_uppercase};
+ghost use Rattle.blink_base.specs.Words.{begins_name, is_name_byte, is_kept_word, is_reserved, is_name, longest_script};
+ghost use Rattle.star_sql.specs.Fronts.{kind_of_word};
+
+use blink_base::Kind;
+
+fn begins_name(byte: u8) -> bool
+    ensures { result ≡ begins_name byte }
+{
+    byte.is_ascii_lowercase() || byte.is_ascii_uppercase() || byte == b'_'
+}
+
+fn is_name_byte(byte: u8) -> bool
+    ensures { result ≡ is_name_byte byte }
+{
+    begins_name(byte) || byte.is_ascii_digit()
+}
+
+fn are_name_bytes(bytes: &[u8]) -> bool
+    ensures { result ≡ list_all is_name_byte bytes.now }
+{
+    bytes.iter().all(|b| is_name_byte(*b))
+}
+
+fn has_no_capital(bytes: &[u8]) -> bool
+    ensures { result ≡ list_all (λ b. not (is_ascii_uppercase b)) bytes.now }
+{
+    bytes.iter().all(|b| !b.is_ascii_uppercase())
+}
+
+fn is_kept_word(bytes: &[u8]) -> bool
+    ensures { result ≡ is_kept_word bytes.now }
+{
+    match bytes {
+        [] => false,
+        [first, behind @ ..] => {
+            begins_name(*first)
+                && are_name_bytes(behind)
+                && has_no_capital(bytes)
+                && bytes.len() <= 67_108_864
+        }
+    }
+}
+
+fn is_reserved(word: &str) -> bool
+    ensures { result ≡ is_reserved word.now }
+{
+    word == "and"
+        || word == "as"
+        || word == "asc"
+        || word == "between"
+        || word == "by"
+        || word == "desc"
+        || word == "from"
+        || word == "group"
+        || word == "in"
+        || word == "is"
+        || word == "like"
+        || word == "limit"
+        || word == "not"
+        || word == "null"
+        || word == "or"
+        || word == "order"
+        || word == "select"
+        || word == "where"
+}
+
+pub(crate) fn is_name(word: &str) -> bool
+    ensures { result ≡ is_name word.now }
+{
+    is_kept_word(word.as_bytes()) && !is_reserved(word)
+}
+
+#[tactic(auto, unfolding(crate::specs::Fronts::kind_of_word))]
+pub(crate) fn kind_of_word(word: &str) -> Option<Kind>
+    ensures { result ≡ kind_of_word word.now }
+{
+    match word {
+        "int" => Some(Kind::Int),
+        "text" => Some(Kind::Text),
+        "date" => Some(Kind::Date),
+        _ => None,
+    }
+}
