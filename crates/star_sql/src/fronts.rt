@@ -1,7 +1,6 @@
 // What stands at the front of some tokens, and the tokens behind it.
-ghost use Rattle.std.specs.Prelude.{◌≡◌, Some, None};
 ghost use Rattle.star_sql.specs.Reading.{kinds_of, opens, closes};
-ghost use Rattle.star_sql.specs.Fronts.{Finds, Gives, behind, is_word, is_comma, is_minus, name_at, text_at, kind_at, key_at};
+ghost use Rattle.star_sql.specs.Fronts.{Finds, Gives, behind, is_word, is_comma, name_at, text_at, kind_at, key_at};
 
 use crate::ParseFault;
 use crate::words::{is_name, kind_of_word};

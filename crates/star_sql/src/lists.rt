@@ -1,5 +1,5 @@
 // Lists with a comma between each two members.
-ghost use Rattle.std.specs.Prelude.{◌≡◌, length};
+ghost use Rattle.std.specs.Prelude.{length};
 ghost use Rattle.star_sql.specs.Reading.{kinds_of};
 ghost use Rattle.star_sql.specs.Fronts.{Gives, with_first, more_at, listed_at, enclosed_at};
 

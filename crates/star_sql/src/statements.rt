@@ -1,7 +1,6 @@
 // The statements, by their first words.
-ghost use Rattle.std.specs.Prelude.{◌≡◌};
 ghost use Rattle.star_sql.specs.Reading.{kinds_of};
-ghost use Rattle.star_sql.specs.Fronts.{Gives, number_at, date_at, literal_at, definition_at, enclosed_at, named_at, filed_at, create_at, insert_at, behind_word, statement_at};
+ghost use Rattle.star_sql.specs.Fronts.{Gives, number_at, date_at, literal_at, definition_at, named_at, filed_at, create_at, insert_at, behind_word, statement_at};
 
 use crate::fronts::{key, kind, name, text, word};
 use crate::lists::{Front, enclosed, listed};

@@ -1,9 +1,8 @@
 // Which words are names, and which words are kinds.
-ghost use Rattle.std.specs.Prelude.{◌≡◌, ◌&&◌, not, ◌≤◌, nat_le, length};
-ghost use Rattle.std.specs.List.{list_all, list_any};
-ghost use Rattle.std.specs.Str.{bytes_eq};
+ghost use Rattle.std.specs.Prelude.{◌≡◌, not};
+ghost use Rattle.std.specs.List.{list_all};
 ghost use Rattle.std.specs.Char.{is_ascii_uppercase};
-ghost use Rattle.blink_base.specs.Words.{begins_name, is_name_byte, is_kept_word, is_reserved, is_name, longest_script};
+ghost use Rattle.blink_base.specs.Words.{begins_name, is_name_byte, is_kept_word, is_reserved, is_name};
 ghost use Rattle.star_sql.specs.Fronts.{kind_of_word};
 
 use blink_base::Kind;
