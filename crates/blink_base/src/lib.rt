@@ -7,6 +7,7 @@
 mod boxed;
 mod copied;
 pub mod examples;
+mod limits;
 mod list;
 mod numbers;
 mod op;
@@ -16,6 +17,7 @@ mod word;
 
 pub use boxed::Boxed;
 pub use copied::Copied;
+pub use limits::Limits;
 pub use list::List;
 pub use numbers::whole_number;
 pub use op::Op;
