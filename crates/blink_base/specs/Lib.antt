@@ -1,4 +1,8 @@
+pub mod Compared
+pub mod Dates
 pub mod Examples
+pub mod Fits
+pub mod Lines
 pub mod Numbers
 pub mod Read
 pub mod Texts

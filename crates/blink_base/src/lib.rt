@@ -4,6 +4,7 @@
 //! value has a kind. A kind says which texts say its values, how a value is kept, and how values are ordered.
 #![tactic(auto)]
 
+mod answer;
 mod boxed;
 mod copied;
 pub mod examples;
@@ -12,9 +13,11 @@ mod list;
 mod numbers;
 mod op;
 mod refusal;
+mod schema;
 mod value;
 mod word;
 
+pub use answer::{Answer, Field};
 pub use boxed::Boxed;
 pub use copied::Copied;
 pub use limits::Limits;
@@ -22,7 +25,8 @@ pub use list::List;
 pub use numbers::whole_number;
 pub use op::Op;
 pub use refusal::Refusal;
-pub use value::{Kind, Value, ValueFault};
+pub use schema::{Column, Schema};
+pub use value::{Kind, Row, Value, ValueFault};
 pub use word::Word;
 
 #[cfg(test)]

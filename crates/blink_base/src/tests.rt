@@ -23,7 +23,7 @@ fn words_and_lists_grow_and_are_copied(rt: HostRuntime) -> Result<(), Fail> {
     assert_eq!(rt; copy.get(0).map_or(9, |word| word.len()), 0);
     assert_eq!(rt; copy.get(1).map_or("", |word| word.as_str()), "b");
     assert_eq!(rt; List::from_vec(copy.into_vec()).as_slice().len(), 2);
-    assert!(rt; Value::Int(7).copied(alloc)? == Value::Int(7));
+    assert!(rt; matches!(Value::Int(7).copied(alloc)?, Value::Int(7)));
     assert_eq!(rt; *Boxed::new(alloc, 7)?.get(), 7);
     assert_eq!(rt; Boxed::new(alloc, 7)?.into_inner(), 7);
     Ok(())

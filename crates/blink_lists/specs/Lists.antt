@@ -1,7 +1,7 @@
 -- Words on lists that the definitions of several crates cite. Source: this project's own.
-use Rattle.std.specs.Prelude.{ℕ, zero, suc, ◌+◌, true, false, List, [], ◌∷◌, ◌++◌}
+use Rattle.std.specs.Prelude.{ℕ, zero, suc, ◌+◌, ◌==◌, Bool, true, false, not, ◌&&◌, List, [], ◌∷◌, ◌++◌, length, Option, Some, None, filter}
 use Rattle.std.specs.declared.cmp.Ordering.{Ordering}
-use Rattle.std.specs.Ordering.{is_le}
+use Rattle.std.specs.Ordering.{is_le, is_lt}
 
 -- x before the first element that it isn't above
 abbrev pub put_in_order : {X : Type 0} → (X → X → Ordering) → X → List X → List X
@@ -32,3 +32,28 @@ numbered_from from (x ∷ xs) = (from, x) ∷ numbered_from (from + 1) xs
 -- each element with its place, counted from 0
 abbrev pub numbered : {X : Type 0} → List X → List (ℕ × X)
 numbered xs = numbered_from 0 xs
+
+-- whether each element is below the next
+abbrev pub rises : {X : Type 0} → (X → X → Ordering) → List X → Bool
+rises cmp [] = true
+rises cmp (x ∷ []) = true
+rises cmp (x ∷ y ∷ ys) = is_lt (cmp x y) && rises cmp (y ∷ ys)
+
+-- each element once, where it first stands
+abbrev pub once_each : {X : Type 0} → (X → X → Bool) → List X → List X
+once_each eq [] = []
+once_each eq (x ∷ xs) = x ∷ filter (λ y. not (eq x y)) (once_each eq xs)
+
+-- whether no element stands twice
+abbrev pub are_distinct : {X : Type 0} → (X → X → Bool) → List X → Bool
+are_distinct eq xs = length (once_each eq xs) == length xs
+
+-- the lists, one after another
+abbrev pub joined : {X : Type 0} → List (List X) → List X
+joined [] = []
+joined (xs ∷ rest) = xs ++ joined rest
+
+-- the first element, if there is one
+abbrev pub first_of : {X : Type 0} → List X → Option X
+first_of [] = None
+first_of (x ∷ xs) = Some x
