@@ -8,3 +8,6 @@ pub mod Read
 pub mod Texts
 pub mod Words
 pub mod formers
+pub mod Hashed
+pub mod Hashing
+pub mod Order

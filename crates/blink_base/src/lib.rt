@@ -8,6 +8,7 @@ mod answer;
 mod boxed;
 mod copied;
 pub mod examples;
+mod hashed;
 mod limits;
 mod list;
 mod numbers;

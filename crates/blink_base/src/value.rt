@@ -71,6 +71,21 @@ impl Value {
     }
 }
 
+impl Value {
+    ghost use Rattle.std.specs.Prelude.{◌≡◌, IfOk};
+
+    /// An equal value.
+    pub fn copy(&self, alloc: Global) -> Result<Value, AllocError>
+        ensures { IfOk result (λ copy. copy ≡ self.now) }
+    {
+        match self {
+            Value::Int(number) => Ok(Value::Int(*number)),
+            Value::Text(word) => Ok(Value::Text(word.copy(alloc)?)),
+            Value::Date(date) => Ok(Value::Date(*date)),
+        }
+    }
+}
+
 impl Copied for Value {
     fn copied(&self, alloc: Global) -> Result<Value, AllocError> {
         match self {

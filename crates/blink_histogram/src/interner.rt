@@ -1,0 +1,89 @@
+// Values by number, and how often each came.
+ghost use Rattle.std.specs.Prelude.{◌≡◌, ◌<◌, ◌++◌, [], ◌∷◌, List as Listed, length, slice_get, map, Some, option_map, IfOk, OnOk, OnErr};
+ghost use Rattle.blink_base.specs.declared.value.Value.{Value as Kept};
+ghost use Rattle.std.specs.Map.{keys_of, values_of};
+ghost use Rattle.blink_histogram.specs.Ranked.{counted};
+ghost use Rattle.blink_histogram.specs.Numbering.{number_of, numbered_values};
+
+use blink_base::Value;
+use indexmap::IndexMap;
+use std::alloc::{AllocError, Global};
+use std::marker::Model;
+
+/// Values that are numbered from 0 in the order of first sight, and how often each came, seen as the list of values with
+/// their counts. It stands for a column where it is that column's distinct values, counted; numbering the column's next
+/// value keeps it so. Source: after Raman et al., ICDE 2008 (frequency partitioning).
+#[derive(Drop)]
+pub struct Interner {
+    alloc: Global,
+    counts: IndexMap<Value, u64>,
+}
+
+impl Model for Interner {
+    ghost use Rattle.std.specs.Prelude.{List, ◌≤◌, length};
+    ghost use Rattle.blink_histogram.specs.Ranked.{Counted};
+    ghost use Rattle.blink_histogram.specs.Numbering.{numbered_values};
+
+    ghost Value = { List Counted };
+
+    ghost view = { λ it. it.counts.entries };
+
+    ghost invariant = { λ it. length it.counts.entries ≤ numbered_values it.counts.entries };
+}
+
+impl Interner {
+    /// Of a column without values. It takes no memory.
+    pub fn new(alloc: Global) -> Interner
+        ensures { result ≡ counted [] }
+    {
+        Interner {
+            alloc,
+            counts: IndexMap::new(alloc),
+        }
+    }
+
+    /// The number of a value, counted once more: that of its first sight, or the next number where it is new.
+    ///
+    /// Fewer than 4,294,967,296 values were numbered before. Want of memory changes nothing; it comes for a new value
+    /// alone.
+    pub fn number(&mut self, value: &Value) -> Result<u32, AllocError>
+        requires { numbered_values self.old < 4294967296 }
+        ensures number { IfOk result (λ n. n ≡ number_of self.old value.now) }
+        // Where it stood for a column, it stands for the column with this value behind it.
+        ensures counted { OnOk result ((column : Listed Kept) → self.old ≡ counted column → self.new ≡ counted (column ++ value.now ∷ [])) }
+        ensures err { OnErr result (self.new ≡ self.old) }
+    {
+        if let Some(at) = self.counts.get_index_of(value) {
+            self.counts[at] += 1;
+            return Ok(at as u32);
+        }
+        let key = value.copy(self.alloc)?;
+        let number = self.counts.len() as u32;
+        match self.counts.insert(key, 1) {
+            Ok(_) => Ok(number),
+            Err(_) => Err(AllocError),
+        }
+    }
+
+    /// The value of a number. It takes no memory.
+    pub fn value(&self, number: u32) -> &Value
+        requires { number < length self.now }
+        ensures { slice_get (keys_of self.now) number ≡ Some result.now }
+    {
+        match self.counts.get_index(number as usize) {
+            Some((value, _)) => value,
+            None => unreachable!(),
+        }
+    }
+
+    /// How often the value of a number came. It takes no memory.
+    pub fn count(&self, number: u32) -> u64
+        requires { number < length self.now }
+        ensures { slice_get (values_of self.now) number ≡ Some result }
+    {
+        match self.counts.get_index(number as usize) {
+            Some((_, count)) => *count,
+            None => unreachable!(),
+        }
+    }
+}
