@@ -2,12 +2,12 @@ pub mod Compared
 pub mod Dates
 pub mod Examples
 pub mod Fits
+pub mod Hashed
+pub mod Hashing
 pub mod Lines
 pub mod Numbers
+pub mod Order
 pub mod Read
 pub mod Texts
 pub mod Words
 pub mod formers
-pub mod Hashed
-pub mod Hashing
-pub mod Order
