@@ -1,5 +1,6 @@
 -- Words on lists that the definitions of several crates cite. Source: this project's own.
-use Rattle.std.specs.Prelude.{ℕ, zero, suc, ◌+◌, ◌==◌, Bool, true, false, not, ◌&&◌, List, [], ◌∷◌, ◌++◌, length, Option, Some, None, filter}
+use Rattle.std.specs.Prelude.{ℕ, zero, suc, ◌+◌, Bool, true, false, not, ◌&&◌, List, [], ◌∷◌, ◌++◌, Option, Some, None, filter}
+use Rattle.std.specs.List.{list_any}
 use Rattle.std.specs.declared.cmp.Ordering.{Ordering}
 use Rattle.std.specs.Ordering.{is_le, is_lt}
 
@@ -46,7 +47,8 @@ once_each eq (x ∷ xs) = x ∷ filter (λ y. not (eq x y)) (once_each eq xs)
 
 -- whether no element stands twice
 abbrev pub are_distinct : {X : Type 0} → (X → X → Bool) → List X → Bool
-are_distinct eq xs = length (once_each eq xs) == length xs
+are_distinct eq [] = true
+are_distinct eq (x ∷ xs) = not (list_any (eq x) xs) && are_distinct eq xs
 
 -- the lists, one after another
 abbrev pub joined : {X : Type 0} → List (List X) → List X
