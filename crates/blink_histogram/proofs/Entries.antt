@@ -44,7 +44,7 @@ counting-absent (e ∷ es) v h = by (same_value v e.0) refl h (counting-absent e
     by false k h rest = rw (counting, counting_by, insert_entry, k) (ap (λ l. e ∷ l) (rest (rw k at h)))
 
 -- how much a value that is counted once more adds
-pub counting-adds : (es : List Counted) (v : Value) → numbered_values (counting es v) ≡ numbered_values es + 1
+counting-adds : (es : List Counted) (v : Value) → numbered_values (counting es v) ≡ numbered_values es + 1
 counting-adds [] v = refl
 counting-adds (e ∷ es) v = by (same_value v e.0) refl (counting-adds es v)
   where
@@ -52,13 +52,20 @@ counting-adds (e ∷ es) v = by (same_value v e.0) refl (counting-adds es v)
     by true k rest = rw (counting, counting_by, k, sum_by-cons (λ (x : Counted). x.1) (e.0, e.1 + 1) es, sum_by-cons (λ (x : Counted). x.1) e es) (omega arith)
     by false k rest = rw (counting, counting_by, k, sum_by-cons (λ (x : Counted). x.1) e (counting es v), sum_by-cons (λ (x : Counted). x.1) e es) (omega arith)
 
-pub counting-longer : (es : List Counted) (v : Value) → length (counting es v) ≤ length es + 1
+counting-longer : (es : List Counted) (v : Value) → length (counting es v) ≤ length es + 1
 counting-longer [] v = omega arith
 counting-longer (e ∷ es) v = by (same_value v e.0) refl (counting-longer es v)
   where
     by : (b : Bool) → same_value v e.0 ≡ b → length (counting es v) ≤ length es + 1 → length (counting (e ∷ es) v) ≤ length (e ∷ es) + 1
     by true k rest = rw (counting, counting_by, k) (omega arith)
     by false k rest = rw (counting, counting_by, k) (omega arith)
+
+-- no more values than were numbered
+pub kept-counting : (es : List Counted) (v : Value) → length es ≤ numbered_values es → length (counting es v) ≤ numbered_values (counting es v)
+kept-counting es v h =
+    let longer = counting-longer es v in
+    let adds = counting-adds es v in
+    omega arith
 
 -- a count is no more than all
 pub count-within : (es : List Counted) (i c : ℕ) → slice_get (values_of es) i ≡ Some c → c ≤ numbered_values es
@@ -75,3 +82,7 @@ raised es v i c at here =
 -- and after a new value came in
 pub added : (es : List Counted) (v : Value) → position (same_value v) (keys_of es) ≡ None → insert_entry same_value es v 1 ≡ counting es v
 added es v at = sym (counting-absent es v (Missing-position (same_value v) es at).value)
+
+-- the number of a new value is the next one
+pub new_place : (es : List Counted) (v : Value) → position (same_value v) (keys_of es) ≡ None → number_of es v ≡ length es
+new_place es v at = (Missing-position (same_value v) es at).or_len

@@ -53,15 +53,17 @@ impl Interner {
         ensures counted { OnOk result ((column : Listed Kept) → self.old ≡ counted column → self.new ≡ counted (column ++ value.now ∷ [])) }
         ensures err { OnErr result (self.new ≡ self.old) }
     {
-        if let Some(at) = self.counts.get_index_of(value) {
-            self.counts[at] += 1;
-            return Ok(at as u32);
-        }
-        let key = value.copy(self.alloc)?;
-        let number = self.counts.len() as u32;
-        match self.counts.insert(key, 1) {
-            Ok(_) => Ok(number),
-            Err(_) => Err(AllocError),
+        match self.counts.get_index_of(value) {
+            Some(at) => {
+                self.counts[at] += 1;
+                Ok(at as u32)
+            }
+            None => {
+                let key = value.copy(self.alloc)?;
+                let number = self.counts.len() as u32;
+                self.counts.insert(key, 1)?;
+                Ok(number)
+            }
         }
     }
 
