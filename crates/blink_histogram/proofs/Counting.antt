@@ -1,5 +1,5 @@
 -- A list with one more element behind it: its distinct elements, and how often each stands in it.
-use Rattle.std.proofs.Common.{◌≡◌, ℕ, ◌+◌, Bool, true, false, not, List, [], ◌∷◌, ◌++◌, map, filter, count_by, cond, refl, sym, ap, ◌∙◌, true≢false, if◌then◌else◌, arith, subst}
+use Rattle.std.proofs.Common.{◌≡◌, ℕ, ◌+◌, Bool, true, false, not, List, [], ◌∷◌, ◌++◌, map, filter, count_by, cond, refl, sym, ap, ◌∙◌, true≢false, arith, subst}
 use Rattle.std.specs.Bool.{⊤}
 use Rattle.std.proofs.lemmas.List.Sums.{sum_by-cons, sum_by-append}
 use Rattle.blink_lists.specs.Lists.{once_each}

@@ -1,10 +1,9 @@
 -- A value counted once more among the entries of a hash table.
-use Rattle.std.proofs.Common.{◌≡◌, ◌≤◌, ◌<◌, ℕ, zero, suc, ◌+◌, Bool, true, false, List, [], ◌∷◌, ◌++◌, map, length, sum_by, count_by, slice_get, position, Option, Some, None, refl, sym, ap, ◌∙◌, arith, true≢false, is_some, unwrap_or}
+use Rattle.std.proofs.Common.{◌≡◌, ◌≤◌, ◌<◌, ℕ, zero, suc, ◌+◌, Bool, true, false, List, [], ◌∷◌, ◌++◌, length, slice_get, position, Some, None, refl, sym, ap, ◌∙◌, arith, true≢false, is_some, unwrap_or, subst}
 use Rattle.std.specs.Map.{keys_of, values_of}
-use Rattle.std.specs.List.{position_or_len}
-use Rattle.std.proofs.lemmas.List.Sums.{sum_by-cons, sum_by-append}
+use Rattle.std.proofs.lemmas.List.Sums.{sum_by-cons}
 use Rattle.indexmap.specs.IndexMap.{set_value_at, insert_entry}
-use Rattle.indexmap.proofs.MapLemmas.{Found, Found-position, Missing, Missing-position, insert_entry-first, insert_entry-absent}
+use Rattle.indexmap.proofs.MapLemmas.{Found-position, Missing-position, insert_entry-first}
 use Rattle.blink_base.specs.declared.value.Value.{Value}
 use Rattle.blink_base.specs.Compared.{same_value}
 use Rattle.blink_base.specs.Hashing.{one_value, value_equiv}
@@ -12,7 +11,6 @@ use Rattle.blink_histogram.specs.Ranked.{Counted, counted}
 use Rattle.blink_histogram.specs.Numbering.{number_of, numbered_values, counting_by, counting}
 use Rattle.blink_histogram.proofs.Counting.{counted-raising}
 use Rattle.std.specs.Map.{lookup}
-
 
 none-some : {A : Type 0} {x : A} → None ≡ Some x → ⊥
 none-some e = true≢false (sym (ap is_some e))
@@ -52,13 +50,21 @@ counting-adds (e ∷ es) v = by (same_value v e.0) refl (counting-adds es v)
     by true k rest = rw (counting, counting_by, k, sum_by-cons (λ (x : Counted). x.1) (e.0, e.1 + 1) es, sum_by-cons (λ (x : Counted). x.1) e es) (omega arith)
     by false k rest = rw (counting, counting_by, k, sum_by-cons (λ (x : Counted). x.1) e (counting es v), sum_by-cons (λ (x : Counted). x.1) e es) (omega arith)
 
-pub counting-longer : (es : List Counted) (v : Value) → length (counting es v) ≤ length es + 1
+counting-longer : (es : List Counted) (v : Value) → length (counting es v) ≤ length es + 1
 counting-longer [] v = omega arith
 counting-longer (e ∷ es) v = by (same_value v e.0) refl (counting-longer es v)
   where
     by : (b : Bool) → same_value v e.0 ≡ b → length (counting es v) ≤ length es + 1 → length (counting (e ∷ es) v) ≤ length (e ∷ es) + 1
     by true k rest = rw (counting, counting_by, k) (omega arith)
     by false k rest = rw (counting, counting_by, k) (omega arith)
+
+-- no more values than were numbered
+pub kept-counting : (es : List Counted) (v : Value) → numbered_values es < 4294967296 → length es ≤ numbered_values es
+    → (length (counting es v) ≤ numbered_values (counting es v)) × (numbered_values (counting es v) ≤ 4294967296)
+kept-counting es v few h =
+    let longer = counting-longer es v in
+    let adds = counting-adds es v in
+    (omega arith, omega arith)
 
 -- a count is no more than all
 pub count-within : (es : List Counted) (i c : ℕ) → slice_get (values_of es) i ≡ Some c → c ≤ numbered_values es
@@ -75,3 +81,24 @@ raised es v i c at here =
 -- and after a new value came in
 pub added : (es : List Counted) (v : Value) → position (same_value v) (keys_of es) ≡ None → insert_entry same_value es v 1 ≡ counting es v
 added es v at = sym (counting-absent es v (Missing-position (same_value v) es at).value)
+
+-- the number of a value behind one that it isn't
+next_number : (e : Counted) (es : List Counted) (v : Value) → same_value v e.0 ≡ false → number_of (e ∷ es) v ≡ suc (number_of es v)
+next_number e es v k = rw (number_of, k) (omega arith)
+
+-- a value stands at its number, once it is counted
+pub numbered_there : (es : List Counted) (v : Value) → slice_get (keys_of (counting es v)) (number_of es v) ≡ Some v
+numbered_there [] v = refl
+numbered_there (e ∷ es) v = by (same_value v e.0) refl (numbered_there es v)
+  where
+    by : (b : Bool) → same_value v e.0 ≡ b → slice_get (keys_of (counting es v)) (number_of es v) ≡ Some v → slice_get (keys_of (counting (e ∷ es) v)) (number_of (e ∷ es) v) ≡ Some v
+    by true k rest = rw (counting, counting_by, number_of, k) (ap (λ x. Some x) (sym (one_value v e.0 k)))
+    by false k rest = subst (λ n. slice_get (keys_of (counting (e ∷ es) v)) n ≡ Some v) (sym (next_number e es v k)) (rw (counting, counting_by, k) rest)
+
+-- the number of a value that came before is its place
+pub old_place : (es : List Counted) (v : Value) (i : ℕ) → position (same_value v) (keys_of es) ≡ Some i → number_of es v ≡ i
+old_place es v i at = (Found-position (same_value v) es i at).or_len
+
+-- the number of a new value is the next one
+pub new_place : (es : List Counted) (v : Value) → position (same_value v) (keys_of es) ≡ None → number_of es v ≡ length es
+new_place es v at = (Missing-position (same_value v) es at).or_len

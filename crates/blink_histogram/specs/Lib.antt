@@ -1,3 +1,4 @@
 pub mod Examples
 pub mod Numbering
 pub mod Ranked
+pub mod Rankings

@@ -1,5 +1,5 @@
 // Values by number, and how often each came.
-ghost use Rattle.std.specs.Prelude.{◌≡◌, ◌<◌, ◌++◌, [], ◌∷◌, List as Listed, length, slice_get, map, Some, option_map, IfOk, OnOk, OnErr};
+ghost use Rattle.std.specs.Prelude.{◌≡◌, ◌<◌, ◌≤◌, ◌+◌, ◌++◌, [], ◌∷◌, List as Listed, length, slice_get, map, Some, option_map, IfOk, OnOk, OnErr};
 ghost use Rattle.blink_base.specs.declared.value.Value.{Value as Kept};
 ghost use Rattle.std.specs.Map.{keys_of, values_of};
 ghost use Rattle.blink_histogram.specs.Ranked.{counted};
@@ -28,7 +28,7 @@ impl Model for Interner {
 
     ghost view = { λ it. it.counts.entries };
 
-    ghost invariant = { λ it. length it.counts.entries ≤ numbered_values it.counts.entries };
+    ghost invariant = { λ it. (length it.counts.entries ≤ numbered_values it.counts.entries) × (numbered_values it.counts.entries ≤ 4294967296) };
 }
 
 impl Interner {
@@ -49,20 +49,33 @@ impl Interner {
     pub fn number(&mut self, value: &Value) -> Result<u32, AllocError>
         requires { numbered_values self.old < 4294967296 }
         ensures number { IfOk result (λ n. n ≡ number_of self.old value.now) }
+        ensures there { IfOk result (λ n. slice_get (keys_of self.new) n ≡ Some value.now) }
+        // One more value was numbered.
+        ensures more { OnOk result (numbered_values self.new ≡ numbered_values self.old + 1) }
         // Where it stood for a column, it stands for the column with this value behind it.
         ensures counted { OnOk result ((column : Listed Kept) → self.old ≡ counted column → self.new ≡ counted (column ++ value.now ∷ [])) }
         ensures err { OnErr result (self.new ≡ self.old) }
     {
-        if let Some(at) = self.counts.get_index_of(value) {
-            self.counts[at] += 1;
-            return Ok(at as u32);
+        match self.counts.get_index_of(value) {
+            Some(at) => {
+                self.counts[at] += 1;
+                Ok(at as u32)
+            }
+            None => {
+                let key = value.copy(self.alloc)?;
+                let number = self.counts.len() as u32;
+                self.counts.insert(key, 1)?;
+                Ok(number)
+            }
         }
-        let key = value.copy(self.alloc)?;
-        let number = self.counts.len() as u32;
-        match self.counts.insert(key, 1) {
-            Ok(_) => Ok(number),
-            Err(_) => Err(AllocError),
-        }
+    }
+
+    // How many distinct values came.
+    pub(crate) fn len(&self) -> usize
+        ensures length { result ≡ length self.now }
+        ensures numbers { result ≤ 4294967296 }
+    {
+        self.counts.len()
     }
 
     /// The value of a number. It takes no memory.

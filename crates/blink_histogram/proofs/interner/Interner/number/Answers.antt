@@ -1,32 +1,71 @@
-use Rattle.std.proofs.Common.{rules, ◌≡◌, ◌<◌, ◌++◌, [], ◌∷◌}
-use Rattle.std.proofs.Common.{List as Listed}
-use Rattle.std.proofs.Common.{length, slice_get, map, Some, option_map, IfOk, OnOk, OnErr, ℕ, ◌+◌, ◌-◌, ◌*◌, ◌≤◌, ◌/◌, ◌%◌, Bool, true, false, nat_eq, nat_lt, List, slice_index_or, slice_set, bit_and, bit_or, Fits, w8, w32, w64, Bor, MutBor}
-use Rattle.blink_base.specs.declared.value.Value.{Value as Kept}
-use Rattle.std.specs.Map.{keys_of, values_of}
-use Rattle.blink_histogram.specs.Ranked.{counted}
-use Rattle.blink_histogram.specs.Numbering.{number_of, numbered_values}
+use Rattle.std.proofs.Common.{◌≡◌, ◌∙◌, sym, ap, length, arith, ◌≤◌}
+use Rattle.blink_histogram.specs.Numbering.{numbered_values}
+use Rattle.blink_histogram.specs.Numbering.{counting, number_of}
+use Rattle.std.proofs.Common.{subst}
+use Rattle.indexmap.specs.IndexMap.{insert_entry}
+use Rattle.blink_base.specs.Compared.{same_value}
+use Rattle.blink_histogram.proofs.Entries.{counted-counting, kept-counting, count-within, counting-adds, raised, added, old_place, new_place, numbered_there}
+use Rattle.std.proofs.Common.{◌+◌, slice_get, Some}
+use Rattle.std.specs.Map.{keys_of}
 use Rattle.blink_histogram.proofs.interner.Interner.number.Goals as goal
 
--- src/interner.rt:57:13
 pub overflow_add-index_mut : goal.overflow_add-index_mut
-overflow_add-index_mut c = ?
+overflow_add-index_mut c =
+    let within = count-within c.self.inside.counts.entries c.in-Some.at c.index_mut.result.now c.index_mut.ensures.value in
+    let few = rw (← c.self.view_is) at c.requires in
+    omega arith
 
--- src/interner.rt:58:13
 pub invariant_of-self : goal.invariant_of-self
-invariant_of-self c = ?
+invariant_of-self c =
+    let entries = raised c.self.inside.counts.entries c.args.value.now c.in-Some.at c.index_mut.result.now (sym c.get_index_of.ensures.index ∙ c.in-Some.is) c.index_mut.ensures.value in
+    subst (λ es. (length es ≤ numbered_values es) × (numbered_values es ≤ 4294967296)) (sym entries)
+    (kept-counting c.self.inside.counts.entries c.args.value.now (rw (← c.self.view_is) at c.requires) c.self.invariant.0)
 
--- src/interner.rt:58:13
 pub returns-in-Some-clause-counted : goal.returns-in-Some-clause-counted
-returns-in-Some-clause-counted c = ?
+returns-in-Some-clause-counted c column stood =
+    let entries = raised c.self.inside.counts.entries c.args.value.now c.in-Some.at c.index_mut.result.now (sym c.get_index_of.ensures.index ∙ c.in-Some.is) c.index_mut.ensures.value in
+    entries ∙ ap (λ es. counting es c.args.value.now) (c.self.view_is ∙ stood) ∙ sym (counted-counting column c.args.value.now)
 
--- src/interner.rt:49:5
-pub invariant_of-self-2 : goal.invariant_of-self-2
-invariant_of-self-2 c = ?
+pub invariant_of-self-in-None : goal.invariant_of-self-in-None
+invariant_of-self-in-None c =
+    let entries = c.in_ok-insert-in-None.ensures.entries ∙ ap (λ v. insert_entry same_value c.self.inside.counts.entries v 1) c.in_ok-key-in-None.ensures
+    ∙ added c.self.inside.counts.entries c.args.value.now (sym c.get_index_of.ensures.index ∙ c.in-None.is) in
+    subst (λ es. (length es ≤ numbered_values es) × (numbered_values es ≤ 4294967296)) (sym entries)
+    (kept-counting c.self.inside.counts.entries c.args.value.now (rw (← c.self.view_is) at c.requires) c.self.invariant.0)
 
--- src/interner.rt:49:5
-pub returns-clause-number : goal.returns-clause-number
-returns-clause-number c = ?
+pub returns-in_ok-insert-in-None-clause-number : goal.returns-in_ok-insert-in-None-clause-number
+returns-in_ok-insert-in-None-clause-number c =
+    let place = new_place c.self.inside.counts.entries c.args.value.now (sym c.get_index_of.ensures.index ∙ c.in-None.is) in
+    c.len-number.ensures.len ∙ sym place ∙ ap (λ es. number_of es c.args.value.now) c.self.view_is
 
--- src/interner.rt:49:5
-pub returns-clause-counted : goal.returns-clause-counted
-returns-clause-counted c = ?
+pub returns-in_ok-insert-in-None-clause-counted : goal.returns-in_ok-insert-in-None-clause-counted
+returns-in_ok-insert-in-None-clause-counted c column stood =
+    let entries = c.in_ok-insert-in-None.ensures.entries ∙ ap (λ v. insert_entry same_value c.self.inside.counts.entries v 1) c.in_ok-key-in-None.ensures
+    ∙ added c.self.inside.counts.entries c.args.value.now (sym c.get_index_of.ensures.index ∙ c.in-None.is) in
+    entries ∙ ap (λ es. counting es c.args.value.now) (c.self.view_is ∙ stood) ∙ sym (counted-counting column c.args.value.now)
+
+pub returns-in-Some-clause-there : goal.returns-in-Some-clause-there
+returns-in-Some-clause-there c =
+    let at = sym c.get_index_of.ensures.index ∙ c.in-Some.is in
+    let entries = raised c.self.inside.counts.entries c.args.value.now c.in-Some.at c.index_mut.result.now at c.index_mut.ensures.value in
+    let there = numbered_there c.self.inside.counts.entries c.args.value.now in
+    subst (λ es. slice_get (keys_of es) c.in-Some.at ≡ Some c.args.value.now) (sym entries) (rw (old_place c.self.inside.counts.entries c.args.value.now c.in-Some.at at) at there)
+
+pub returns-in-Some-clause-more : goal.returns-in-Some-clause-more
+returns-in-Some-clause-more c =
+    let entries = raised c.self.inside.counts.entries c.args.value.now c.in-Some.at c.index_mut.result.now (sym c.get_index_of.ensures.index ∙ c.in-Some.is) c.index_mut.ensures.value in
+    ap numbered_values entries ∙ counting-adds c.self.inside.counts.entries c.args.value.now ∙ ap (λ es. numbered_values es + 1) c.self.view_is
+
+pub returns-in_ok-insert-in-None-clause-there : goal.returns-in_ok-insert-in-None-clause-there
+returns-in_ok-insert-in-None-clause-there c =
+    let at = sym c.get_index_of.ensures.index ∙ c.in-None.is in
+    let entries = c.in_ok-insert-in-None.ensures.entries ∙ ap (λ v. insert_entry same_value c.self.inside.counts.entries v 1) c.in_ok-key-in-None.ensures ∙ added c.self.inside.counts.entries c.args.value.now at in
+    let place = c.len-number.ensures.len ∙ sym (new_place c.self.inside.counts.entries c.args.value.now at) in
+    let there = numbered_there c.self.inside.counts.entries c.args.value.now in
+    subst (λ n. slice_get (keys_of c.insert.new.self.entries) n ≡ Some c.args.value.now) (sym place) (subst (λ es. slice_get (keys_of es) (number_of c.self.inside.counts.entries c.args.value.now) ≡ Some c.args.value.now) (sym entries) there)
+
+pub returns-in_ok-insert-in-None-clause-more : goal.returns-in_ok-insert-in-None-clause-more
+returns-in_ok-insert-in-None-clause-more c =
+    let entries = c.in_ok-insert-in-None.ensures.entries ∙ ap (λ v. insert_entry same_value c.self.inside.counts.entries v 1) c.in_ok-key-in-None.ensures
+    ∙ added c.self.inside.counts.entries c.args.value.now (sym c.get_index_of.ensures.index ∙ c.in-None.is) in
+    ap numbered_values entries ∙ counting-adds c.self.inside.counts.entries c.args.value.now ∙ ap (λ es. numbered_values es + 1) c.self.view_is
