@@ -2,13 +2,18 @@
 #![tactic(auto)]
 
 mod ast;
+mod columns;
+mod conditions;
 mod depth;
 pub mod examples;
 mod fault;
 mod fronts;
+mod items;
 mod laws;
 mod lists;
+mod literals;
 mod parsing;
+mod select;
 mod statements;
 mod words;
 
