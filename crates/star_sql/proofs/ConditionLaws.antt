@@ -24,14 +24,14 @@ use Rattle.star_sql.specs.WellFormed.{some_and_all, is_literal, is_column_name, 
 use Rattle.star_sql.specs.Reading.{opens}
 use Rattle.star_sql.specs.Conditions.{of_prim, of_cond}
 use Rattle.star_sql.specs.Fronts.{Front, ◌>>=◌, cases_of, is_word, is_dot, is_text, behind, literal_at, text_at, date_at, made_of, inside_at, enclosed_at, separated_at}
-use Rattle.star_sql.specs.ConditionFronts.{column_at, op_of, compared_at, bounds_at, worded_tests, worded_at, tested_at, test_at, all_of, any_of, primary_at, conj_at, cond_at, condition_at}
+use Rattle.star_sql.specs.ConditionFronts.{column_at, op_of, compared_at, bounds_at, worded_tests, worded_at, tested_at, test_at, conj_of, cond_of, primary_at, conj_at, cond_at, condition_at}
 use Rattle.star_sql.proofs.Steps.{bind_some, cased, some_is, both_true, and_true, and_always, goes_on_after}
 use Rattle.star_sql.proofs.Parts.{Reads, none_further, never_behind, behind_either, equal_bytes, word_is, word_again, text_takes, text_again, literals, texts}
 use Rattle.star_sql.proofs.MemberTests.{some_mapped, some_alike, some_imply, some_short}
 use Rattle.star_sql.proofs.Sequences.{Marks, sequences}
 use Rattle.star_sql.proofs.Combined.{both, after, insides, enclosures, passes_word, made, by_word_takes, AllTake, form}
 use Rattle.star_sql.proofs.ColumnLaws.{columns}
-use Rattle.star_sql.proofs.Folds.{on_prim, on_conj, fold_cond, fold_group, conjs_of, any_of-conjs, parted}
+use Rattle.star_sql.proofs.Folds.{on_prim, on_conj, fold_cond, fold_group, conjs_of, cond_of-conjs, parted}
 
 -- ---- tests behind their column
 
@@ -271,22 +271,22 @@ prim_spelled = on_prim test_spelled in_parentheses (separated (name_of (codes "a
 abbrev conj_spelled : Conj → Spelled
 conj_spelled c = separated (name_of (codes "and")) (map prim_spelled c.all)
 
-within_any : (cs : List Conj) (n : ℕ) → is_within (any_of cs) (suc n) ≡ some_and_all (conj_within n) cs
+within_any : (cs : List Conj) (n : ℕ) → is_within (cond_of cs) (suc n) ≡ some_and_all (conj_within n) cs
 within_any cs n =
     ap (λ (f : Within). f (suc n)) (fold_cond test_within group_within each_within cond_parts_within cs)
     ∙ some_mapped (λ (f : Within). f n) (on_conj test_within group_within each_within cond_parts_within) cs
     ∙ some_alike (λ (c : Conj). each_within (map (on_prim test_within group_within each_within cond_parts_within) c.all) n) (conj_within n) (λ c. some_mapped (λ (f : Within). f n) (on_prim test_within group_within each_within cond_parts_within) c.all) cs
 
-within_none : (cs : List Conj) → is_within (any_of cs) zero ≡ false
+within_none : (cs : List Conj) → is_within (cond_of cs) zero ≡ false
 within_none cs = ap (λ (f : Within). f zero) (fold_cond test_within group_within each_within cond_parts_within cs)
 
-formed_any : (cs : List Conj) → is_condition (any_of cs) ≡ some_and_all (λ (c : Conj). some_and_all is_prim c.all) cs
+formed_any : (cs : List Conj) → is_condition (cond_of cs) ≡ some_and_all (λ (c : Conj). some_and_all is_prim c.all) cs
 formed_any cs =
     fold_cond is_test same_bool (some_and_all same_bool) (some_and_all same_bool) cs
     ∙ some_mapped same_bool (on_conj is_test same_bool (some_and_all same_bool) (some_and_all same_bool)) cs
     ∙ some_alike (λ (c : Conj). some_and_all same_bool (map is_prim c.all)) (λ (c : Conj). some_and_all is_prim c.all) (λ c. some_mapped same_bool is_prim c.all) cs
 
-spelled_any : (cs : List Conj) → cond_spelled (any_of cs) ≡ separated (name_of (codes "or")) (map conj_spelled cs)
+spelled_any : (cs : List Conj) → cond_spelled (cond_of cs) ≡ separated (name_of (codes "or")) (map conj_spelled cs)
 spelled_any cs = fold_cond test_spelled in_parentheses (separated (name_of (codes "and"))) (separated (name_of (codes "or"))) cs
 
 spelled_group : (c : Cond) → prim_spelled (Group c) ≡ in_parentheses (cond_spelled c)
@@ -370,15 +370,15 @@ module _ (n : ℕ) (inner : Reads (cond_at n) cond_spelled (λ c. is_within c n)
 
   conjunctions : Reads (conj_at (cond_at n)) conj_spelled (conj_within n) conj_goes_on
   unfolding conj_at
-  conjunctions = made (sequences primaries ands refl) all_of (λ c. c.all) conj_spelled (conj_within n) (λ c. refl) (λ ps. refl) (λ ps. refl)
+  conjunctions = made (sequences primaries ands refl) conj_of (λ c. c.all) conj_spelled (conj_within n) (λ c. refl) (λ ps. refl) (λ ps. refl)
 
   next : Reads (cond_at (suc n)) cond_spelled (λ c. is_within c (suc n)) cond_goes_on
   unfolding cond_at
-  next = made (sequences conjunctions ors refl) any_of conjs_of cond_spelled (λ c. is_within c (suc n)) any_of-conjs spelled_any (λ cs. within_any cs n)
+  next = made (sequences conjunctions ors refl) cond_of conjs_of cond_spelled (λ c. is_within c (suc n)) cond_of-conjs spelled_any (λ cs. within_any cs n)
 
 never_within : (c : Cond) → is_within c zero ≡ true → ⊥
 never_within c h =
-    let no : false ≡ true = sym (within_none (conjs_of c)) ∙ ap (λ (d : Cond). is_within d zero) (any_of-conjs c) ∙ h in
+    let no : false ≡ true = sym (within_none (conjs_of c)) ∙ ap (λ (d : Cond). is_within d zero) (cond_of-conjs c) ∙ h in
     cc
 
 conds : (n : ℕ) → Reads (cond_at n) cond_spelled (λ c. is_within c n) cond_goes_on
@@ -402,8 +402,8 @@ cond_formed : (n : ℕ) (c : Cond) → is_within c n ≡ true → is_condition c
 cond_formed zero c h = absurd (never_within c h)
 cond_formed (suc n) c h =
     let cs = conjs_of c in
-    let w : some_and_all (conj_within n) cs ≡ true = sym (within_any cs n) ∙ ap (λ (d : Cond). is_within d (suc n)) (any_of-conjs c) ∙ h in
-    ap is_condition (sym (any_of-conjs c)) ∙ formed_any cs
+    let w : some_and_all (conj_within n) cs ≡ true = sym (within_any cs n) ∙ ap (λ (d : Cond). is_within d (suc n)) (cond_of-conjs c) ∙ h in
+    ap is_condition (sym (cond_of-conjs c)) ∙ formed_any cs
     ∙ some_imply (conj_within n) (λ (d : Conj). some_and_all is_prim d.all) (λ d. some_imply (prim_within n) is_prim (prim_formed n (cond_formed n)) d.all) cs w
 
 prim_fits : (n : ℕ) → ((c : Cond) → is_condition c ≡ true → length (cond_spelled c) < n → is_within c n ≡ true) → (p : Primary) → is_prim p ≡ true → length (prim_spelled p) ≤ n → prim_within n p ≡ true
@@ -423,11 +423,11 @@ cond_fits : (n : ℕ) (c : Cond) → is_condition c ≡ true → length (cond_sp
 cond_fits zero c f lt = absurd (omega arith)
 cond_fits (suc n) c f lt =
     let cs = conjs_of c in
-    let text : cond_spelled c ≡ separated (name_of (codes "or")) (map conj_spelled cs) = ap cond_spelled (sym (any_of-conjs c)) ∙ spelled_any cs in
+    let text : cond_spelled c ≡ separated (name_of (codes "or")) (map conj_spelled cs) = ap cond_spelled (sym (cond_of-conjs c)) ∙ spelled_any cs in
     let le : length (separated (name_of (codes "or")) (map conj_spelled cs)) ≤ n = omega (arith, ap length text) in
-    let formed : some_and_all (λ (d : Conj). some_and_all is_prim d.all) cs ≡ true = sym (formed_any cs) ∙ ap is_condition (any_of-conjs c) ∙ f in
+    let formed : some_and_all (λ (d : Conj). some_and_all is_prim d.all) cs ≡ true = sym (formed_any cs) ∙ ap is_condition (cond_of-conjs c) ∙ f in
     let each : (d : Conj) → some_and_all is_prim d.all ≡ true → length (conj_spelled d) ≤ n → conj_within n d ≡ true = λ d. some_short (Name (codes "and")) prim_spelled is_prim (prim_within n) n (prim_fits n (cond_fits n)) d.all in
-    ap (λ (d : Cond). is_within d (suc n)) (sym (any_of-conjs c)) ∙ within_any cs n
+    ap (λ (d : Cond). is_within d (suc n)) (sym (cond_of-conjs c)) ∙ within_any cs n
     ∙ some_short (Name (codes "or")) conj_spelled (λ (d : Conj). some_and_all is_prim d.all) (conj_within n) n each cs formed le
 
 condition_takes : (ts : Spelled) (x : Cond × Spelled) → condition_at ts ≡ Some x → IsTrue (is_condition x.0) × (ts ≡ cond_spelled x.0 ++ x.1)

@@ -9,7 +9,7 @@ use Rattle.star_sql.specs.declared.ast.Primary.TheBlock.{hidden-the_row-Conj-2, 
 use Rattle.star_sql.specs.declared.ast.Cond.{Cond, out-Cond, roll-out-Cond, rolls-Cond', Row_of-Conj, end_of-Conj, more_of-Conj, Row_of-Primary, end_of-Primary, more_of-Primary, items-the_row-Primary, items_shown-the_row-Primary-1, items-the_row-Conj, items_hidden-the_row-Conj-2}
 use Rattle.star_sql.specs.declared.ast.Conj.{Conj}
 use Rattle.star_sql.specs.Conditions.{of_prim, of_cond, of_conjs, of_prims}
-use Rattle.star_sql.specs.ConditionFronts.{any_of}
+use Rattle.star_sql.specs.ConditionFronts.{cond_of}
 
 module _ {A : Type 0} (test : TestWords → A) (group : A → A) (every : List A → A) (some : List A → A) where
   abbrev pub on_prim : Primary → A
@@ -28,7 +28,7 @@ module _ {A : Type 0} (test : TestWords → A) (group : A → A) (every : List A
       let here : every (of_prims test group every some ps) ≡ every (map on_prim (shown-the_row-Primary-1 shape ps)) = ap every (prims_map ps ∙ ap (map on_prim) (sym (items_shown-the_row-Primary-1 shape ps))) in
       ap (λ (x : A). x ∷ of_conjs test group every some rest) here ∙ ap (λ (xs : List A). every (map on_prim (shown-the_row-Primary-1 shape ps)) ∷ xs) (conjs_map rest)
 
-  pub fold_cond : (cs : List Conj) → of_cond test group every some (any_of cs) ≡ some (map on_conj cs)
+  pub fold_cond : (cs : List Conj) → of_cond test group every some (cond_of cs) ≡ some (map on_conj cs)
   fold_cond cs = ap (of_cond test group every some) (rolls-Cond' (record { any = cs })) ∙ ap some (conjs_map (hidden-the_row-Conj-2 cs) ∙ ap (map on_conj) (items_hidden-the_row-Conj-2 cs))
 
   pub fold_group : (c : Cond) → on_prim (Group c) ≡ group (of_cond test group every some c)
@@ -39,8 +39,8 @@ module _ {A : Type 0} (test : TestWords → A) (group : A → A) (every : List A
 abbrev pub conjs_of : Cond → List Conj
 conjs_of c = (out-Cond c).any
 
-pub any_of-conjs : (c : Cond) → any_of (conjs_of c) ≡ c
-any_of-conjs c = roll-out-Cond c
+pub cond_of-conjs : (c : Cond) → cond_of (conjs_of c) ≡ c
+cond_of-conjs c = roll-out-Cond c
 
 -- each primary is a test or a group
 pub parted : (p : Primary) → ((w : TestWords) × (p ≡ Test w)) ⊎ ((c : Cond) × (p ≡ Group c))

@@ -67,11 +67,11 @@ unfoldable pub test_at : Spelled → Front TestWords
 test_at ts = column_at ts >>= λ c. tested_at c.0 c.1
 
 -- a conjunction of these primaries, and a condition of these conjunctions
-abbrev pub all_of : List Primary → Conj
-all_of ps = record { all = ps }
+abbrev pub conj_of : List Primary → Conj
+conj_of ps = record { all = ps }
 
-abbrev pub any_of : List Conj → Cond
-any_of cs = roll-Cond (record { any = cs })
+abbrev pub cond_of : List Conj → Cond
+cond_of cs = roll-Cond (record { any = cs })
 
 -- a test, or what is read inside parentheses
 unfoldable pub primary_at : (Spelled → Front Cond) → Spelled → Front Primary
@@ -79,12 +79,12 @@ primary_at inner ts = cases_of (behind opens ts) (made_of Test (test_at ts)) (λ
 
 -- primaries with AND between them
 unfoldable pub conj_at : (Spelled → Front Cond) → Spelled → Front Conj
-conj_at inner ts = made_of all_of (separated_at (is_word (codes "and")) (primary_at inner) ts)
+conj_at inner ts = made_of conj_of (separated_at (is_word (codes "and")) (primary_at inner) ts)
 
 -- conjunctions with OR between them, with fewer than so many parentheses open at once
 unfoldable pub cond_at : ℕ → Spelled → Front Cond
 cond_at zero ts = None
-cond_at (suc n) ts = made_of any_of (separated_at (is_word (codes "or")) (conj_at (cond_at n)) ts)
+cond_at (suc n) ts = made_of cond_of (separated_at (is_word (codes "or")) (conj_at (cond_at n)) ts)
 
 -- a condition
 unfoldable pub condition_at : Spelled → Front Cond

@@ -26,4 +26,6 @@ pub use laws::{depth_by_prefixes, one_spelling};
 pub use parsing::parse;
 
 #[cfg(test)]
+mod select_tests;
+#[cfg(test)]
 mod tests;
