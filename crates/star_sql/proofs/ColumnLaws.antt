@@ -1,12 +1,12 @@
 -- What is read as a column is spelled so, and what is spelled so is read again.
-use Rattle.std.proofs.Common.{◌≡◌, ℕ, true, List, [], ◌∷◌, ◌++◌, Option, Some, None, refl, sym, ap, subst, ◌∙◌, inl, inr}
+use Rattle.std.proofs.Common.{◌≡◌, ℕ, true, List, ◌∷◌, ◌++◌, Option, Some, None, refl, sym, ap, subst, ◌∙◌, inl, inr}
 use Rattle.std.specs.Prelude.{IsTrue}
 use Rattle.blink_base.specs.Words.{is_name}
 use Rattle.star_lex.specs.declared.token.TokenKind.TheVariants.{Name, Symbol}
 use Rattle.star_lex.specs.declared.token.Mark.TheVariants as mark
 use Rattle.star_sql.specs.declared.ast.ColumnName.{ColumnName}
 use Rattle.star_sql.specs.Spelling.{Spelled, name_of, qualified, column_spelled}
-use Rattle.star_sql.specs.WellFormed.{if_there, is_column_name}
+use Rattle.star_sql.specs.WellFormed.{is_column_name}
 use Rattle.star_sql.specs.Fronts.{◌>>=◌, is_dot, behind, name_at}
 use Rattle.star_sql.specs.ConditionFronts.{column_behind, column_at}
 use Rattle.star_sql.proofs.Steps.{bind_some, cased, some_is, both_true, and_true}

@@ -13,7 +13,6 @@ use Rattle.star_lex.specs.declared.token.Mark.{Mark}
 use Rattle.star_lex.specs.declared.token.Mark.TheVariants as mark
 use Rattle.star_sql.specs.declared.ast.ColumnName.{ColumnName}
 use Rattle.star_sql.specs.declared.ast.Literal.{Literal}
-use Rattle.star_sql.specs.declared.ast.Literal.TheVariants as literal
 use Rattle.star_sql.specs.declared.ast.TestWords.{TestWords}
 use Rattle.star_sql.specs.declared.ast.TestWords.TheVariants.{Compare, Columns, Between, Among, Like}
 use Rattle.star_sql.specs.declared.ast.Primary.{Primary, Test, Group}
@@ -22,11 +21,11 @@ use Rattle.star_sql.specs.declared.ast.Cond.{Cond}
 use Rattle.star_sql.specs.Spelling.{Spelled, name_of, mark_of, text_of, listed, in_parentheses, op_spelled, literal_spelled, qualified, column_spelled, test_spelled, cond_spelled}
 use Rattle.star_sql.specs.WellFormed.{some_and_all, is_literal, is_column_name, is_test, is_condition}
 use Rattle.star_sql.specs.Reading.{opens}
-use Rattle.star_sql.specs.Conditions.{of_prim, of_cond}
-use Rattle.star_sql.specs.Fronts.{Front, ◌>>=◌, cases_of, is_word, is_dot, is_text, behind, literal_at, text_at, date_at, made_of, inside_at, enclosed_at, separated_at}
+use Rattle.star_sql.specs.Conditions.{of_cond}
+use Rattle.star_sql.specs.Fronts.{Front, cases_of, is_word, is_dot, is_text, behind, literal_at, text_at, date_at, made_of, inside_at, enclosed_at}
 use Rattle.star_sql.specs.ConditionFronts.{column_at, op_of, compared_at, bounds_at, worded_tests, worded_at, tested_at, test_at, conj_of, cond_of, primary_at, conj_at, cond_at, condition_at}
 use Rattle.star_sql.proofs.Steps.{bind_some, cased, some_is, both_true, and_true, and_always, goes_on_after}
-use Rattle.star_sql.proofs.Parts.{Reads, none_further, never_behind, behind_either, equal_bytes, word_is, word_again, text_takes, text_again, literals, texts}
+use Rattle.star_sql.proofs.Parts.{Reads, none_further, never_behind, behind_either, word_is, text_again, literals, texts}
 use Rattle.star_sql.proofs.MemberTests.{some_mapped, some_alike, some_imply, some_short}
 use Rattle.star_sql.proofs.Sequences.{Marks, sequences}
 use Rattle.star_sql.proofs.Combined.{both, after, insides, enclosures, passes_word, made, by_word_takes, AllTake, form}

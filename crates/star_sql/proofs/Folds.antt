@@ -1,5 +1,5 @@
 -- The fold over conditions by lists: what it gives for a condition of some conjunctions, and for a group.
-use Rattle.std.proofs.Common.{◌≡◌, List, [], ◌∷◌, map, refl, sym, ap, ◌∙◌, ◌⊎◌, inl, inr}
+use Rattle.std.proofs.Common.{◌≡◌, List, ◌∷◌, map, refl, sym, ap, ◌∙◌, ◌⊎◌, inl, inr}
 use denote.Hole.Carrier.{hidden}
 use Rattle.star_sql.specs.declared.ast.TestWords.{TestWords}
 use Rattle.star_sql.specs.declared.ast.Primary.{Primary, Test, Group, out-Primary, roll-Primary, roll-out-Primary}

@@ -18,8 +18,8 @@ use Rattle.star_sql.specs.Reading.{IsSpelled, SpelledOnce}
 use Rattle.star_sql.specs.Fronts.{Front, Gives, is_word, is_comma, behind, enclosed_at, literal_at}
 use Rattle.star_sql.specs.StatementFronts.{definition_at, named_at, filed_at, create_at, insert_at, of_both, forms, behind_word, statement_at, alone, whole}
 use Rattle.star_sql.proofs.Steps.{some_is, and_always}
-use Rattle.star_sql.proofs.Parts.{Reads, none_further, names, texts, literals, kinds, keys, any_text, any_kind, any_key, never_behind}
-use Rattle.star_sql.proofs.Combined.{passes_word, both, made, after, lists, enclosures, by_word_takes, AllTake, form}
+use Rattle.star_sql.proofs.Parts.{Reads, none_further, names, texts, literals, kinds, keys, any_text, never_behind}
+use Rattle.star_sql.proofs.Combined.{both, made, after, lists, enclosures, by_word_takes, AllTake, form}
 use Rattle.star_sql.proofs.SelectLaws.{select_parts, selects}
 
 -- ---- the parts of statements

@@ -8,20 +8,18 @@ use Rattle.star_lex.specs.declared.token.Mark.TheVariants as mark
 use Rattle.star_sql.specs.declared.ast.ColumnName.{ColumnName}
 use Rattle.star_sql.specs.declared.ast.Way.{Way}
 use Rattle.star_sql.specs.declared.ast.Way.TheVariants.{Plain, Asc, Desc}
-use Rattle.star_sql.specs.declared.ast.OrderKey.{OrderKey}
 use Rattle.star_sql.specs.declared.ast.Expr.{Expr}
 use Rattle.star_sql.specs.declared.ast.Expr.TheVariants.{One, Times, Plus, Minus}
 use Rattle.star_sql.specs.declared.ast.What.{What}
 use Rattle.star_sql.specs.declared.ast.What.TheVariants as what
-use Rattle.star_sql.specs.declared.ast.Item.{Item}
 use Rattle.star_sql.specs.Spelling.{Spelled, name_of, mark_of, qualified, column_spelled, expr_spelled, what_spelled, item_spelled, way_spelled, order_spelled}
-use Rattle.star_sql.specs.WellFormed.{if_there, is_column_name, is_expr, is_what, is_item, is_order_key}
+use Rattle.star_sql.specs.WellFormed.{is_column_name, is_expr, is_what, is_item, is_order_key}
 use Rattle.star_sql.specs.Reading.{opens}
-use Rattle.star_sql.specs.Fronts.{Front, ◌>>=◌, cases_of, is_word, is_dot, is_star, behind, name_at, made_of, inside_at}
+use Rattle.star_sql.specs.Fronts.{cases_of, is_word, is_dot, is_star, behind, made_of}
 use Rattle.star_sql.specs.ConditionFronts.{column_at}
 use Rattle.star_sql.specs.QueryFronts.{joined_by, joined_at, expr_at, star_at, aggregates, aggregate_at, is_opened, what_at, item_at, way_at, order_at}
 use Rattle.star_sql.proofs.Steps.{bind_some, chosen, cased, some_is, both_true, and_true, and_always}
-use Rattle.star_sql.proofs.Parts.{Reads, none_further, never_behind, behind_takes, behind_either, star_is, word_takes, word_again, names}
+use Rattle.star_sql.proofs.Parts.{Reads, none_further, never_behind, behind_takes, behind_either, star_is, word_takes, names}
 use Rattle.star_sql.proofs.Combined.{Passes, passes_some, both, made, optionals, insides, by_word_takes, AllTake, form}
 use Rattle.star_sql.proofs.ColumnLaws.{columns}
 

@@ -3,7 +3,6 @@ use Rattle.std.proofs.Common.{◌≡◌, ℕ, Bool, false, ◌&&◌, ◌||◌, L
 use Rattle.std.specs.Prelude.{codes}
 use Rattle.std.specs.List.{list_all}
 use Rattle.std.proofs.Math.Bool.{and_assoc}
-use Rattle.blink_base.specs.Words.{is_name}
 use Rattle.star_lex.specs.declared.token.TokenKind.{TokenKind}
 use Rattle.star_lex.specs.declared.token.TokenKind.TheVariants.{Name}
 use Rattle.star_sql.specs.declared.ast.ColumnName.{ColumnName}
@@ -11,7 +10,7 @@ use Rattle.star_sql.specs.declared.ast.OrderKey.{OrderKey}
 use Rattle.star_sql.specs.declared.ast.Cond.{Cond}
 use Rattle.star_sql.specs.declared.ast.Select.{Select}
 use Rattle.star_sql.specs.Spelling.{Spelled, name_of, listed, where_some, where_any, column_spelled, item_spelled, order_spelled, cond_spelled, number_spelled, select_spelled}
-use Rattle.star_sql.specs.WellFormed.{if_there, is_column_name, is_order_key, is_condition, is_written_limit, is_select}
+use Rattle.star_sql.specs.WellFormed.{if_there, is_column_name, is_order_key, is_written_limit, is_select}
 use Rattle.star_sql.specs.Fronts.{is_word, is_comma, is_dot}
 use Rattle.star_sql.specs.QueryFronts.{Parts, of_parts, end_at, select_at}
 use Rattle.star_sql.proofs.Parts.{Reads, none_further, names, limits}

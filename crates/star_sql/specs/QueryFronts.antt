@@ -16,7 +16,7 @@ use Rattle.star_sql.specs.declared.ast.Cond.{Cond}
 use Rattle.star_sql.specs.declared.ast.Select.{Select}
 use Rattle.star_sql.specs.Spelling.{Spelled}
 use Rattle.star_sql.specs.Reading.{opens}
-use Rattle.star_sql.specs.Fronts.{Front, ◌>>=◌, cases_of, is_word, is_dot, is_star, behind, name_at, made_of, then_at, after_at, optional_at, inside_at, listed_at, by_at, Form, by_word, limit_at}
+use Rattle.star_sql.specs.Fronts.{Front, ◌>>=◌, cases_of, is_word, is_star, behind, name_at, made_of, then_at, after_at, optional_at, inside_at, listed_at, by_at, Form, by_word, limit_at}
 use Rattle.star_sql.specs.ConditionFronts.{column_at, condition_at}
 
 -- what a mark between two columns makes of them

@@ -13,6 +13,7 @@ mod laws;
 mod lists;
 mod literals;
 mod parsing;
+mod predicates;
 mod select;
 mod statements;
 mod words;
