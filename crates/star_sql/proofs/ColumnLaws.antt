@@ -8,7 +8,7 @@ use Rattle.star_sql.specs.declared.ast.ColumnName.{ColumnName}
 use Rattle.star_sql.specs.Spelling.{Spelled, name_of, qualified, column_spelled}
 use Rattle.star_sql.specs.WellFormed.{is_column_name}
 use Rattle.star_sql.specs.Fronts.{◌>>=◌, is_dot, behind, name_at}
-use Rattle.star_sql.specs.ConditionFronts.{column_behind, column_at}
+use Rattle.star_sql.specs.PredicateFronts.{column_behind, column_at}
 use Rattle.star_sql.proofs.Steps.{bind_some, cased, some_is, both_true, and_true}
 use Rattle.star_sql.proofs.Parts.{Reads, behind_takes, dot_is, name_takes, name_again}
 

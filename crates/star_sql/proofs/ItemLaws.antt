@@ -16,7 +16,7 @@ use Rattle.star_sql.specs.Spelling.{Spelled, name_of, mark_of, qualified, column
 use Rattle.star_sql.specs.WellFormed.{is_column_name, is_expr, is_what, is_item, is_order_key}
 use Rattle.star_sql.specs.Reading.{opens}
 use Rattle.star_sql.specs.Fronts.{cases_of, is_word, is_dot, is_star, behind, made_of}
-use Rattle.star_sql.specs.ConditionFronts.{column_at}
+use Rattle.star_sql.specs.PredicateFronts.{column_at}
 use Rattle.star_sql.specs.QueryFronts.{joined_by, joined_at, expr_at, star_at, aggregates, aggregate_at, is_opened, what_at, item_at, way_at, order_at}
 use Rattle.star_sql.proofs.Steps.{bind_some, chosen, cased, some_is, both_true, and_true, and_always}
 use Rattle.star_sql.proofs.Parts.{Reads, none_further, never_behind, behind_takes, behind_either, star_is, word_takes, names}

@@ -7,6 +7,7 @@ pub mod ItemLaws
 pub mod Loop
 pub mod MemberTests
 pub mod Parts
+pub mod PredicateLaws
 pub mod Prefixes
 pub mod SelectLaws
 pub mod Sequences

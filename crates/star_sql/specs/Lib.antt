@@ -3,6 +3,7 @@ pub mod Conditions
 pub mod Examples
 pub mod Fronts
 pub mod Made
+pub mod PredicateFronts
 pub mod QueryFronts
 pub mod Reading
 pub mod Spelling

@@ -17,7 +17,8 @@ use Rattle.star_sql.specs.declared.ast.Select.{Select}
 use Rattle.star_sql.specs.Spelling.{Spelled}
 use Rattle.star_sql.specs.Reading.{opens}
 use Rattle.star_sql.specs.Fronts.{Front, ◌>>=◌, cases_of, is_word, is_star, behind, name_at, made_of, then_at, after_at, optional_at, inside_at, listed_at, by_at, Form, by_word, limit_at}
-use Rattle.star_sql.specs.ConditionFronts.{column_at, condition_at}
+use Rattle.star_sql.specs.PredicateFronts.{column_at}
+use Rattle.star_sql.specs.ConditionFronts.{condition_at}
 
 -- what a mark between two columns makes of them
 abbrev pub joined_by : TokenKind → Option (ColumnName → ColumnName → Expr)

@@ -1,7 +1,7 @@
 // Columns as they are named.
 ghost use Rattle.star_sql.specs.Reading.{kinds_of};
 ghost use Rattle.star_sql.specs.Fronts.{Gives};
-ghost use Rattle.star_sql.specs.ConditionFronts.{column_behind, column_at};
+ghost use Rattle.star_sql.specs.PredicateFronts.{column_behind, column_at};
 
 use crate::fronts::{dot, name};
 use crate::lists::Front;
@@ -11,7 +11,7 @@ use star_lex::Token;
 use std::alloc::Global;
 
 // A column behind its first name.
-#[tactic(auto, unfolding(crate::specs::ConditionFronts::column_behind))]
+#[tactic(auto, unfolding(crate::specs::PredicateFronts::column_behind))]
 fn column_behind(
     alloc: Global,
     first: Word,
@@ -40,7 +40,7 @@ fn column_behind(
     }
 }
 
-#[tactic(auto, unfolding(crate::specs::ConditionFronts::column_at))]
+#[tactic(auto, unfolding(crate::specs::PredicateFronts::column_at))]
 pub(crate) fn column(alloc: Global, tokens: &[Token]) -> Result<(ColumnName, &[Token]), ParseFault>
     ensures { Gives (λ x. (x.0, kinds_of x.1.now)) result (column_at (kinds_of tokens.now)) }
 {
@@ -49,7 +49,7 @@ pub(crate) fn column(alloc: Global, tokens: &[Token]) -> Result<(ColumnName, &[T
 }
 
 impl Front for ColumnName {
-    ghost use Rattle.star_sql.specs.ConditionFronts.{column_at};
+    ghost use Rattle.star_sql.specs.PredicateFronts.{column_at};
 
     ghost reads = { column_at };
 
