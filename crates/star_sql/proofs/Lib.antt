@@ -1,6 +1,14 @@
+pub mod ColumnLaws
+pub mod Combined
+pub mod ConditionLaws
+pub mod Folds
 pub mod Inverse
+pub mod ItemLaws
 pub mod Loop
+pub mod MemberTests
 pub mod Parts
+pub mod PredicateLaws
 pub mod Prefixes
+pub mod SelectLaws
 pub mod Sequences
 pub mod Steps

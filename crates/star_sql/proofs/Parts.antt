@@ -1,5 +1,5 @@
 -- What a reader takes from the front is spelled so, and what is spelled so is read again: of words, marks, names and literals.
-use Rattle.std.proofs.Common.{◌≡◌, ℕ, ℤ, Bool, true, false, cond, List, [], ◌∷◌, ◌++◌, Some, None, refl, ap, subst, inl, inr}
+use Rattle.std.proofs.Common.{◌≡◌, ℕ, ℤ, pos, negsuc, Bool, true, false, cond, ◌||◌, List, [], ◌∷◌, ◌++◌, Some, None, refl, ap, subst, inl, inr}
 use Rattle.std.specs.Prelude.{IsTrue, codes}
 use Rattle.std.specs.Str.{bytes_eq}
 use Rattle.std.proofs.lemmas.Slice.Eq.{bytes_eq-Decides}
@@ -11,16 +11,25 @@ use Rattle.star_lex.specs.declared.token.TokenKind.TheVariants.{Name, Number, Te
 use Rattle.star_lex.specs.declared.token.Mark.TheVariants as mark
 use Rattle.star_sql.specs.declared.ast.Literal.{Literal}
 use Rattle.star_sql.specs.declared.ast.Literal.TheVariants as literal
-use Rattle.star_sql.specs.Spelling.{Spelled, kind_spelled, key_mark, literal_spelled}
-use Rattle.star_sql.specs.WellFormed.{is_written_number, is_literal}
+use Rattle.star_sql.specs.Spelling.{Spelled, name_of, text_of, kind_spelled, key_mark, literal_spelled, number_spelled}
+use Rattle.star_sql.specs.WellFormed.{is_written_number, is_written_limit, is_literal}
 use Rattle.star_sql.specs.Reading.{opens, closes}
-use Rattle.star_sql.specs.Fronts.{Front, ◌>>=◌, is_word, is_comma, is_minus, behind, name_at, text_at, number_at, date_at, literal_at, kind_of_word, kind_at, key_at}
+use Rattle.star_sql.specs.Fronts.{Front, ◌>>=◌, is_word, is_comma, is_dot, is_star, is_minus, behind, name_at, text_at, number_at, date_at, literal_at, kind_of_word, kind_at, key_at, limit_of, limit_at}
 use Rattle.star_sql.proofs.Steps.{bind_some, guard_some, chosen, cased, some_is}
 
--- a reader whose members, where what is behind them may end them, have one spelling
-pub record Reads {A : Type 0} (reads : Spelled → Front A) (spelled : A → Spelled) (formed : A → Bool) (Ends : Spelled → Type 0) : Type 0 where
+-- a reader of what has one spelling: it takes what is spelled so, and takes it again, where no token that it would read on with stands behind it
+pub record Reads {A : Type 0} (reads : Spelled → Front A) (spelled : A → Spelled) (formed : A → Bool) (further : TokenKind → Bool) : Type 0 where
   pub takes : (ts : Spelled) (x : A × Spelled) → reads ts ≡ Some x → IsTrue (formed x.0) × (ts ≡ spelled x.0 ++ x.1)
-  pub again : (a : A) (rest : Spelled) → IsTrue (formed a) → Ends rest → reads (spelled a ++ rest) ≡ Some (a, rest)
+  pub again : (a : A) (rest : Spelled) → IsTrue (formed a) → behind further rest ≡ None → reads (spelled a ++ rest) ≡ Some (a, rest)
+
+-- no token is read on with
+abbrev pub none_further : TokenKind → Bool
+none_further t = false
+
+pub never_behind : (ts : Spelled) → behind none_further ts ≡ None
+unfolding behind
+never_behind [] = refl
+never_behind (t ∷ ts) = refl
 
 pub same_bytes : (a b : List ℕ) → bytes_eq a b ≡ true → a ≡ b
 same_bytes a b e = (bytes_eq-Decides a b).0 e
@@ -39,6 +48,14 @@ word_is w (Symbol m) e = absurd cc
 pub comma_is : (t : TokenKind) → is_comma t ≡ true → t ≡ Symbol mark.Comma
 comma_is (Symbol mark.Comma) e = refl
 comma_is _ e = absurd cc
+
+pub dot_is : (t : TokenKind) → is_dot t ≡ true → t ≡ Symbol mark.Dot
+dot_is (Symbol mark.Dot) e = refl
+dot_is _ e = absurd cc
+
+pub star_is : (t : TokenKind) → is_star t ≡ true → t ≡ Symbol mark.Star
+star_is (Symbol mark.Star) e = refl
+star_is _ e = absurd cc
 
 pub minus_is : (t : TokenKind) → is_minus t ≡ true → t ≡ Symbol mark.Minus
 minus_is (Symbol mark.Minus) e = refl
@@ -59,6 +76,17 @@ behind_takes test u only (t ∷ ts) rest e =
     let g = guard_some (test t) ts rest e in
     let h = only t g.0 in
     cc (h, g.1)
+
+-- where none of either kind is behind, none of the one and none of the other is
+pub behind_either : (f g : TokenKind → Bool) (ts : Spelled) → behind (λ t. f t || g t) ts ≡ None → (behind f ts ≡ None) × (behind g ts ≡ None)
+unfolding behind
+behind_either f g [] e = (refl, refl)
+behind_either f g (t ∷ ts) e = neither (f t) (g t) ts e
+  where
+    neither : (a b : Bool) (rest : Spelled) → cond (a || b) (Some rest) None ≡ None → (cond a (Some rest) None ≡ None) × (cond b (Some rest) None ≡ None)
+    neither true b rest h = absurd cc
+    neither false true rest h = absurd cc
+    neither false false rest h = (refl, refl)
 
 pub word_takes : (w : List ℕ) (ts rest : Spelled) → behind (is_word w) ts ≡ Some rest → ts ≡ Name w ∷ rest
 word_takes w ts rest e = behind_takes (is_word w) (Name w) (word_is w) ts rest e
@@ -94,6 +122,15 @@ text_takes (Symbol m ∷ ts) x e = absurd cc
 pub text_again : (w : List ℕ) (rest : Spelled) → text_at (Text w ∷ rest) ≡ Some (w, rest)
 unfolding text_at
 text_again w rest = refl
+
+pub names : Reads name_at name_of is_name none_further
+names = record { takes = name_takes; again = λ w rest formed ends. name_again w rest formed }
+
+abbrev pub any_text : List ℕ → Bool
+any_text w = true
+
+pub texts : Reads text_at text_of any_text none_further
+texts = record { takes = λ ts x e. (refl, text_takes ts x e); again = λ w rest formed ends. text_again w rest }
 
 -- what a reader of literals takes
 abbrev TakesLiteral : Spelled → Literal × Spelled → Type 0
@@ -136,14 +173,14 @@ literal_takes (Symbol m ∷ ts) x e =
       | inr p ↦ absurd (cc (p.1))
     ]
 
-literal_again : (a : Literal) (rest : Spelled) → IsTrue (is_literal a) → Unit {0} → literal_at (literal_spelled a ++ rest) ≡ Some (a, rest)
+literal_again : (a : Literal) (rest : Spelled) → IsTrue (is_literal a) → behind none_further rest ≡ None → literal_at (literal_spelled a ++ rest) ≡ Some (a, rest)
 unfolding literal_at date_at number_at text_at
 literal_again (literal.Number false n) rest formed u = rw formed refl
 literal_again (literal.Number true n) rest formed u = rw formed refl
 literal_again (literal.Text w) rest formed u = refl
 literal_again (literal.Date w) rest formed u = refl
 
-pub literals : Reads literal_at literal_spelled is_literal (λ rest. Unit {0})
+pub literals : Reads literal_at literal_spelled is_literal none_further
 literals = record { takes = literal_takes; again = literal_again }
 
 -- ---- kinds and PRIMARY KEY
@@ -161,40 +198,74 @@ kind_word_takes w k e =
       ]
     ]
 
-pub kind_takes : (ts : Spelled) (x : Kind × Spelled) → kind_at ts ≡ Some x → ts ≡ kind_spelled x.0 ++ x.1
+abbrev pub any_kind : Kind → Bool
+any_kind k = true
+
+kind_takes : (ts : Spelled) (x : Kind × Spelled) → kind_at ts ≡ Some x → IsTrue (any_kind x.0) × (ts ≡ kind_spelled x.0 ++ x.1)
 unfolding kind_at
 kind_takes [] x e = absurd cc
 kind_takes (Name w ∷ ts) x e =
     let a = bind_some (kind_of_word w) (λ k. Some (k, ts)) x e in
     let h = kind_word_takes w a.0 a.1 in
-    subst (λ (y : Kind × Spelled). Name w ∷ ts ≡ kind_spelled y.0 ++ y.1) (some_is (a.0, ts) x a.2) (ap (λ (s : Spelled). s ++ ts) h)
+    subst (λ (y : Kind × Spelled). IsTrue (any_kind y.0) × (Name w ∷ ts ≡ kind_spelled y.0 ++ y.1)) (some_is (a.0, ts) x a.2) (refl, ap (λ (s : Spelled). s ++ ts) h)
 kind_takes (Number n ∷ ts) x e = absurd cc
 kind_takes (Text w ∷ ts) x e = absurd cc
 kind_takes (Symbol m ∷ ts) x e = absurd cc
 
-pub kind_again : (k : Kind) (rest : Spelled) → kind_at (kind_spelled k ++ rest) ≡ Some (k, rest)
+kind_again : (k : Kind) (rest : Spelled) → IsTrue (any_kind k) → behind none_further rest ≡ None → kind_at (kind_spelled k ++ rest) ≡ Some (k, rest)
 unfolding kind_at kind_of_word
-kind_again kind.Int rest = refl
-kind_again kind.Text rest = refl
-kind_again kind.Date rest = refl
+kind_again kind.Int rest formed ends = refl
+kind_again kind.Text rest formed ends = refl
+kind_again kind.Date rest formed ends = refl
 
--- no PRIMARY stands there
-abbrev pub EndsKind : Spelled → Type 0
-EndsKind rest = behind (is_word (codes "primary")) rest ≡ None
+pub kinds : Reads kind_at kind_spelled any_kind none_further
+kinds = record { takes = kind_takes; again = kind_again }
 
-pub key_takes : (ts : Spelled) (x : Bool × Spelled) → key_at ts ≡ Some x → ts ≡ key_mark x.0 ++ x.1
+abbrev pub any_key : Bool → Bool
+any_key k = true
+
+key_takes : (ts : Spelled) (x : Bool × Spelled) → key_at ts ≡ Some x → IsTrue (any_key x.0) × (ts ≡ key_mark x.0 ++ x.1)
 unfolding key_at
 key_takes ts x e =
     elim (cased (behind (is_word (codes "primary")) ts) (Some (false, ts)) (λ rest. behind (is_word (codes "key")) rest >>= λ r. Some (true, r)) (Some x) e) [
-      | inl p ↦ subst (λ (y : Bool × Spelled). ts ≡ key_mark y.0 ++ y.1) (some_is (false, ts) x p.1) refl
+      | inl p ↦ subst (λ (y : Bool × Spelled). IsTrue (any_key y.0) × (ts ≡ key_mark y.0 ++ y.1)) (some_is (false, ts) x p.1) (refl, refl)
       | inr p ↦
           let a = bind_some (behind (is_word (codes "key")) p.0) (λ r. Some (true, r)) x p.2 in
           let first = word_takes (codes "primary") ts p.0 p.1 in
           let second = word_takes (codes "key") p.0 a.0 a.1 in
-          subst (λ (y : Bool × Spelled). ts ≡ key_mark y.0 ++ y.1) (some_is (true, a.0) x a.2) (cc (first, second))
+          subst (λ (y : Bool × Spelled). IsTrue (any_key y.0) × (ts ≡ key_mark y.0 ++ y.1)) (some_is (true, a.0) x a.2) (refl, cc (first, second))
     ]
 
-pub key_again : (key : Bool) (rest : Spelled) → EndsKind rest → key_at (key_mark key ++ rest) ≡ Some (key, rest)
+key_again : (key : Bool) (rest : Spelled) → IsTrue (any_key key) → behind (is_word (codes "primary")) rest ≡ None → key_at (key_mark key ++ rest) ≡ Some (key, rest)
 unfolding key_at
-key_again true rest ends = rw (word_again (codes "primary") (Name (codes "key") ∷ rest), word_again (codes "key") rest) refl
-key_again false rest ends = rw ends refl
+key_again true rest formed ends = rw (word_again (codes "primary") (Name (codes "key") ∷ rest), word_again (codes "key") rest) refl
+key_again false rest formed ends = rw ends refl
+
+pub keys : Reads key_at key_mark any_key (is_word (codes "primary"))
+keys = record { takes = key_takes; again = key_again }
+
+-- ---- the number of LIMIT
+
+limit_is : (n : ℤ) (limit : ℕ) → limit_of n ≡ Some limit → (is_written_limit limit ≡ true) × (n ≡ pos limit)
+limit_is (pos n) limit e =
+    let g = guard_some (is_written_limit n) n limit e in
+    subst (λ (k : ℕ). (is_written_limit k ≡ true) × (pos n ≡ pos k)) g.1 (g.0, refl)
+limit_is (negsuc n) limit e = absurd cc
+
+limit_takes : (ts : Spelled) (x : ℕ × Spelled) → limit_at ts ≡ Some x → IsTrue (is_written_limit x.0) × (ts ≡ number_spelled x.0 ++ x.1)
+unfolding limit_at
+limit_takes [] x e = absurd cc
+limit_takes (Name w ∷ ts) x e = absurd cc
+limit_takes (Number n ∷ ts) x e =
+    let a = bind_some (limit_of n) (λ limit. Some (limit, ts)) x e in
+    let h = limit_is n a.0 a.1 in
+    subst (λ (y : ℕ × Spelled). IsTrue (is_written_limit y.0) × (Number n ∷ ts ≡ number_spelled y.0 ++ y.1)) (some_is (a.0, ts) x a.2) (h.0, ap (λ (k : ℤ). Number k ∷ ts) h.1)
+limit_takes (Text w ∷ ts) x e = absurd cc
+limit_takes (Symbol m ∷ ts) x e = absurd cc
+
+limit_again : (n : ℕ) (rest : Spelled) → IsTrue (is_written_limit n) → behind none_further rest ≡ None → limit_at (number_spelled n ++ rest) ≡ Some (n, rest)
+unfolding limit_at
+limit_again n rest formed ends = rw formed refl
+
+pub limits : Reads limit_at number_spelled is_written_limit none_further
+limits = record { takes = limit_takes; again = limit_again }

@@ -1,5 +1,5 @@
--- Steps of a reader: what a step that did not fail tells.
-use Rattle.std.proofs.Common.{◌≡◌, Bool, true, false, ◌&&◌, cond, Option, Some, None, refl, ◌⊎◌, inl, inr}
+-- Steps of a reader: what a step that did not fail tells, and how what was taken is put together.
+use Rattle.std.proofs.Common.{◌≡◌, Bool, true, false, ◌&&◌, cond, List, ◌++◌, Option, Some, None, refl, sym, ap, ◌∙◌, append_assoc, ◌⊎◌, inl, inr}
 use Rattle.star_sql.specs.Fronts.{◌>>=◌, cases_of}
 
 -- the value of a step that did not fail
@@ -28,6 +28,14 @@ both_true false b e = absurd cc
 
 pub and_true : (a b : Bool) → a ≡ true → b ≡ true → (a && b) ≡ true
 and_true a b p q = rw (p, q) refl
+
+-- a list that goes on after a part, and then after another
+pub goes_on_after : {A : Type 0} {whole s : List A} (a b rest : List A) → whole ≡ a ++ s → s ≡ b ++ rest → whole ≡ (a ++ b) ++ rest
+goes_on_after {A} {whole} {s} a b rest p q = p ∙ ap (λ (t : List A). a ++ t) q ∙ sym (append_assoc a b rest)
+
+pub and_always : (b : Bool) → b ≡ (b && true)
+and_always true = refl
+and_always false = refl
 
 abbrev there : {A : Type 0} → A → Option A
 there x = Some x

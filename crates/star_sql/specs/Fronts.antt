@@ -1,5 +1,5 @@
--- Reading from left to right: what stands at the front of some tokens, and the tokens behind it. Contracts of private functions alone cite it. Source: this project's own.
-use Rattle.std.specs.Prelude.{◌≡◌, ℕ, zero, suc, Bool, true, false, List, [], ◌∷◌, length, Option, Some, None, Result, Ok, Err, codes, if◌then◌else◌}
+-- Reading from left to right: what stands at the front of some tokens, and the tokens behind it. Contracts of private functions alone cite this and the other modules of fronts. Source: this project's own.
+use Rattle.std.specs.Prelude.{◌≡◌, ℕ, zero, suc, ℤ, pos, negsuc, Bool, true, false, List, [], ◌∷◌, length, Option, Some, None, Result, Ok, Err, codes, if◌then◌else◌}
 use Rattle.std.specs.Str.{bytes_eq}
 use Rattle.blink_base.specs.declared.value.Kind.{Kind}
 use Rattle.blink_base.specs.declared.value.Kind.TheVariants as kind
@@ -7,16 +7,13 @@ use Rattle.blink_base.specs.Words.{is_name}
 use Rattle.star_lex.specs.declared.token.TokenKind.{TokenKind}
 use Rattle.star_lex.specs.declared.token.TokenKind.TheVariants.{Name, Number, Text, Symbol}
 use Rattle.star_lex.specs.declared.token.Mark.TheVariants as mark
-use Rattle.star_sql.specs.declared.ast.ColumnDef.{ColumnDef}
 use Rattle.star_sql.specs.declared.ast.Literal.{Literal}
 use Rattle.star_sql.specs.declared.ast.Literal.TheVariants as literal
-use Rattle.star_sql.specs.declared.ast.Statement.{Statement}
-use Rattle.star_sql.specs.declared.ast.Statement.TheVariants as statement
 use Rattle.star_sql.specs.declared.fault.ParseFault.{ParseFault}
 use Rattle.star_sql.specs.declared.fault.ParseFault.TheVariants as fault
 use Rattle.star_sql.specs.Spelling.{Spelled}
 use Rattle.star_sql.specs.Reading.{opens, closes}
-use Rattle.star_sql.specs.WellFormed.{is_written_number}
+use Rattle.star_sql.specs.WellFormed.{is_written_number, is_written_limit}
 
 -- what stands at the front, if it is there, and what is behind it
 abbrev pub Front : Type 0 → Type 0
@@ -61,10 +58,35 @@ abbrev pub is_comma : TokenKind → Bool
 is_comma (Symbol mark.Comma) = true
 is_comma _ = false
 
+-- whether a token is a dot
+abbrev pub is_dot : TokenKind → Bool
+is_dot (Symbol mark.Dot) = true
+is_dot _ = false
+
+-- whether a token is a star
+abbrev pub is_star : TokenKind → Bool
+is_star (Symbol mark.Star) = true
+is_star _ = false
+
+-- whether a token is a text
+abbrev pub is_text : TokenKind → Bool
+is_text (Name w) = false
+is_text (Number n) = false
+is_text (Text w) = true
+is_text (Symbol m) = false
+
 -- whether a token is a minus
 abbrev pub is_minus : TokenKind → Bool
 is_minus (Symbol mark.Minus) = true
 is_minus _ = false
+
+-- what was read, made into something else
+abbrev pub made_of : {A B : Type 0} → (A → B) → Front A → Front B
+made_of make read = read >>= λ x. Some (make x.0, x.1)
+
+-- one thing, and another behind it
+abbrev pub then_at : {A B : Type 0} → (Spelled → Front A) → (Spelled → Front B) → Spelled → Front (A × B)
+then_at first second ts = first ts >>= λ a. second a.1 >>= λ b. Some ((a.0, b.0), b.1)
 
 -- what is behind a token that passes the test
 unfoldable pub behind : (TokenKind → Bool) → Spelled → Option Spelled
@@ -130,115 +152,65 @@ kind_at (Symbol m ∷ ts) = None
 unfoldable pub key_at : Spelled → Front Bool
 key_at ts = cases_of (behind (is_word (codes "primary")) ts) (Some (false, ts)) (λ rest. behind (is_word (codes "key")) rest >>= λ r. Some (true, r))
 
--- a column of CREATE
-unfoldable pub definition_at : Spelled → Front ColumnDef
-definition_at ts = do
-  name ← name_at ts
-  kind ← kind_at name.1
-  key ← key_at kind.1
-  Some (record { name = name.0; kind = kind.0; key = key.0 }, key.1)
+-- what stands behind a word
+abbrev pub after_at : {A : Type 0} → List ℕ → (Spelled → Front A) → Spelled → Front A
+after_at word reads ts = behind (is_word word) ts >>= λ rest. reads rest
+
+-- a word and what stands behind it, where the word is there
+abbrev pub optional_at : {A : Type 0} → List ℕ → (Spelled → Front A) → Spelled → Front (Option A)
+optional_at word reads ts = cases_of (behind (is_word word) ts) (Some (None, ts)) (λ rest. reads rest >>= λ x. Some (Some x.0, x.1))
+
+-- what stands before a closing parenthesis
+abbrev pub closed_at : {A : Type 0} → (Spelled → Front A) → Spelled → Front A
+closed_at reads ts = reads ts >>= λ x. behind closes x.1 >>= λ rest. Some (x.0, rest)
+
+-- what stands in parentheses
+abbrev pub inside_at : {A : Type 0} → (Spelled → Front A) → Spelled → Front A
+inside_at reads ts = behind opens ts >>= λ inside. closed_at reads inside
 
 -- a list with this member before what is read
 abbrev pub with_first : {A : Type 0} → A → Front (List A) → Front (List A)
 with_first x read = read >>= λ xs. Some (x ∷ xs.0, xs.1)
 
--- further members of a list, each behind a comma, and at most so many
-unfoldable pub more_at : {A : Type 0} → (Spelled → Front A) → ℕ → Spelled → Front (List A)
-more_at reads zero ts = Some ([], ts)
-more_at reads (suc n) ts = cases_of (behind is_comma ts) (Some ([], ts)) (λ rest. reads rest >>= λ x. with_first x.0 (more_at reads n x.1))
+-- further members of a list, each behind a token that passes the test, and at most so many
+unfoldable pub more_at : {A : Type 0} → (TokenKind → Bool) → (Spelled → Front A) → ℕ → Spelled → Front (List A)
+more_at between reads zero ts = Some ([], ts)
+more_at between reads (suc n) ts = cases_of (behind between ts) (Some ([], ts)) (λ rest. reads rest >>= λ x. with_first x.0 (more_at between reads n x.1))
+
+-- a list with a token that passes the test between each two members
+unfoldable pub separated_at : {A : Type 0} → (TokenKind → Bool) → (Spelled → Front A) → Spelled → Front (List A)
+separated_at between reads ts = reads ts >>= λ x. with_first x.0 (more_at between reads (length x.1) x.1)
 
 -- a list with a comma between each two members
-unfoldable pub listed_at : {A : Type 0} → (Spelled → Front A) → Spelled → Front (List A)
-listed_at reads ts = do
-  x ← reads ts
-  with_first x.0 (more_at reads (length x.1) x.1)
+abbrev pub listed_at : {A : Type 0} → (Spelled → Front A) → Spelled → Front (List A)
+listed_at reads ts = separated_at is_comma reads ts
 
 -- a list in parentheses
-unfoldable pub enclosed_at : {A : Type 0} → (Spelled → Front A) → Spelled → Front (List A)
-enclosed_at reads ts = do
-  inside ← behind opens ts
-  xs ← listed_at reads inside
-  rest ← behind closes xs.1
-  Some (xs.0, rest)
+abbrev pub enclosed_at : {A : Type 0} → (Spelled → Front A) → Spelled → Front (List A)
+enclosed_at reads ts = inside_at (listed_at reads) ts
 
--- a word and a name
-unfoldable pub named_at : List ℕ → Spelled → Front (List ℕ)
-named_at word ts = do
-  rest ← behind (is_word word) ts
-  name_at rest
-
--- a word and a name, and behind them a word and a text
-unfoldable pub filed_at : List ℕ → List ℕ → Spelled → Front (List ℕ × List ℕ)
-filed_at first second ts = do
-  name ← named_at first ts
-  rest ← behind (is_word second) name.1
-  file ← text_at rest
-  Some ((name.0, file.0), file.1)
-
--- what stands behind CREATE
-unfoldable pub create_at : Spelled → Front Statement
-create_at ts = do
-  name ← named_at (codes "table") ts
-  columns ← enclosed_at definition_at name.1
-  Some (statement.Create name.0 columns.0, columns.1)
-
--- what stands behind INSERT
-unfoldable pub insert_at : Spelled → Front Statement
-insert_at ts = do
-  name ← named_at (codes "into") ts
-  rest ← behind (is_word (codes "values")) name.1
-  rows ← listed_at (enclosed_at literal_at) rest
-  Some (statement.Insert name.0 rows.0, rows.1)
-
--- a statement of a name
-abbrev pub of_name : (List ℕ → Statement) → Front (List ℕ) → Front Statement
-of_name make read = read >>= λ name. Some (make name.0, name.1)
-
--- a statement of a name and a file
-abbrev pub of_file : (List ℕ → List ℕ → Statement) → Front (List ℕ × List ℕ) → Front Statement
-of_file make read = read >>= λ x. Some (make x.0.0 x.0.1, x.1)
+-- a list behind a word and BY, where the word is there
+abbrev pub by_at : {A : Type 0} → List ℕ → (Spelled → Front A) → Spelled → Front (List A)
+by_at word reads ts = cases_of (behind (is_word word) ts) (Some ([], ts)) (λ rest. after_at (codes "by") (listed_at reads) rest)
 
 -- a first word, and what stands behind it
-abbrev pub Form : Type 0
-Form = List ℕ × (Spelled → Front Statement)
-
--- the statements by their first words
-abbrev pub forms : List Form
-forms =
-    (codes "create", create_at)
-    ∷ (codes "drop", λ ts. of_name statement.Drop (named_at (codes "table") ts))
-    ∷ (codes "load", λ ts. of_file statement.Load (filed_at (codes "into") (codes "from") ts))
-    ∷ (codes "append", λ ts. of_file statement.Append (filed_at (codes "into") (codes "from") ts))
-    ∷ (codes "insert", insert_at)
-    ∷ (codes "reorganize", λ ts. of_name statement.Reorganize (named_at (codes "table") ts))
-    ∷ (codes "describe", λ ts. of_name statement.Describe (name_at ts))
-    ∷ (codes "export", λ ts. of_file statement.Export (filed_at (codes "table") (codes "to") ts))
-    ∷ (codes "import", λ ts. of_file statement.Import (filed_at (codes "table") (codes "from") ts))
-    ∷ []
+abbrev pub Form : Type 0 → Type 0
+Form A = List ℕ × (Spelled → Front A)
 
 -- what stands behind a word, by the first of some forms that has this word
-abbrev pub by_word : List Form → List ℕ → Spelled → Front Statement
+abbrev pub by_word : {A : Type 0} → List (Form A) → List ℕ → Spelled → Front A
 by_word [] w ts = None
 by_word (form ∷ more) w ts = if bytes_eq w form.0 then form.1 ts else by_word more w ts
 
--- what stands behind the first word of a statement
-unfoldable pub behind_word : List ℕ → Spelled → Front Statement
-behind_word w ts = by_word forms w ts
+-- a number without minus that LIMIT may have
+abbrev pub limit_of : ℤ → Option ℕ
+limit_of (pos n) = if is_written_limit n then Some n else None
+limit_of (negsuc n) = None
 
--- a statement
-unfoldable pub statement_at : Spelled → Front Statement
-statement_at [] = None
-statement_at (Name w ∷ ts) = behind_word w ts
-statement_at (Number n ∷ ts) = None
-statement_at (Text w ∷ ts) = None
-statement_at (Symbol m ∷ ts) = None
-
--- what was read, where nothing is behind it
-abbrev pub alone : Front Statement → Option Statement
-alone None = None
-alone (Some (s, [])) = Some s
-alone (Some (s, t ∷ ts)) = None
-
--- the statement that all of the tokens are
-unfoldable pub whole : Spelled → Option Statement
-whole ts = alone (statement_at ts)
+-- the number of LIMIT
+unfoldable pub limit_at : Spelled → Front ℕ
+limit_at [] = None
+limit_at (Name w ∷ ts) = None
+limit_at (Number n ∷ ts) = limit_of n >>= λ limit. Some (limit, ts)
+limit_at (Text w ∷ ts) = None
+limit_at (Symbol m ∷ ts) = None

@@ -1,6 +1,11 @@
+pub mod ConditionFronts
 pub mod Conditions
 pub mod Examples
 pub mod Fronts
+pub mod Made
+pub mod PredicateFronts
+pub mod QueryFronts
 pub mod Reading
 pub mod Spelling
+pub mod StatementFronts
 pub mod WellFormed

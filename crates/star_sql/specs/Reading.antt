@@ -5,7 +5,6 @@ use Rattle.star_lex.specs.declared.token.TokenKind.{TokenKind}
 use Rattle.star_lex.specs.declared.token.TokenKind.TheVariants as token
 use Rattle.star_lex.specs.declared.token.Mark.TheVariants as mark
 use Rattle.star_sql.specs.declared.ast.Statement.{Statement}
-use Rattle.star_sql.specs.declared.ast.Statement.TheVariants as statement
 use Rattle.star_sql.specs.Spelling.{Spelled, spell}
 use Rattle.star_sql.specs.WellFormed.{is_well_formed}
 
@@ -58,20 +57,6 @@ pub record IsSpelled (kinds : Spelled) (s : Statement) : Type 0 where
   pub formed : IsTrue (is_well_formed s)
   pub spelled : spell s ≡ kinds
 
--- whether a statement asks for rows: SELECT and EXPLAIN, which aren't parsed yet
-abbrev pub asks : Statement → Bool
-asks (statement.Select s) = true
-asks (statement.Explain s) = true
-asks (statement.Create name columns) = false
-asks (statement.Drop name) = false
-asks (statement.Load name file) = false
-asks (statement.Append name file) = false
-asks (statement.Insert name rows) = false
-asks (statement.Reorganize name) = false
-asks (statement.Describe name) = false
-asks (statement.Export name file) = false
-asks (statement.Import name file) = false
-
--- The law that two well formed statements with one spelling are equal, where they ask for no rows.
+-- The law that two well formed statements with one spelling are equal.
 abbrev pub SpelledOnce : Type 0
-SpelledOnce = (s t : Statement) → asks s ≡ false → asks t ≡ false → IsTrue (is_well_formed s) → IsTrue (is_well_formed t) → spell s ≡ spell t → s ≡ t
+SpelledOnce = (s t : Statement) → IsTrue (is_well_formed s) → IsTrue (is_well_formed t) → spell s ≡ spell t → s ≡ t

@@ -1,6 +1,8 @@
 // What stands at the front of some tokens, and the tokens behind it.
+ghost use Rattle.std.specs.Prelude.{◌≡◌};
 ghost use Rattle.star_sql.specs.Reading.{kinds_of, opens, closes};
-ghost use Rattle.star_sql.specs.Fronts.{Finds, Gives, behind, is_word, is_comma, name_at, text_at, kind_at, key_at};
+ghost use Rattle.star_sql.specs.Fronts.{Finds, Gives, behind, is_word, is_comma, is_dot, is_star, name_at, text_at, kind_at, key_at};
+ghost use Rattle.star_sql.specs.QueryFronts.{is_opened};
 
 use crate::ParseFault;
 use crate::words::{is_name, kind_of_word};
@@ -9,7 +11,7 @@ use star_lex::{Mark, Token, TokenKind};
 use std::alloc::Global;
 
 #[tactic(auto, unfolding(crate::specs::Fronts::behind))]
-fn found_word<'a>(word: &str, tokens: &'a [Token]) -> Option<&'a [Token]>
+pub(crate) fn found_word<'a>(word: &str, tokens: &'a [Token]) -> Option<&'a [Token]>
     ensures { Finds (λ r. kinds_of r.now) result (behind (is_word word.now) (kinds_of tokens.now)) }
 {
     match tokens {
@@ -47,8 +49,56 @@ pub(crate) fn comma(tokens: &[Token]) -> Option<&[Token]>
 }
 
 #[tactic(auto, unfolding(crate::specs::Fronts::behind))]
-pub(crate) fn left(tokens: &[Token]) -> Result<&[Token], ParseFault>
-    ensures { Gives (λ r. kinds_of r.now) result (behind opens (kinds_of tokens.now)) }
+pub(crate) fn dot(tokens: &[Token]) -> Option<&[Token]>
+    ensures { Finds (λ r. kinds_of r.now) result (behind is_dot (kinds_of tokens.now)) }
+{
+    match tokens {
+        [
+            Token {
+                kind: TokenKind::Symbol(Mark::Dot),
+                ..
+            },
+            rest @ ..,
+        ] => Some(rest),
+        _ => None,
+    }
+}
+
+#[tactic(auto, unfolding(crate::specs::Fronts::behind))]
+pub(crate) fn star(tokens: &[Token]) -> Result<&[Token], ParseFault>
+    ensures { Gives (λ r. kinds_of r.now) result (behind is_star (kinds_of tokens.now)) }
+{
+    match tokens {
+        [
+            Token {
+                kind: TokenKind::Symbol(Mark::Star),
+                ..
+            },
+            rest @ ..,
+        ] => Ok(rest),
+        _ => Err(ParseFault::Syntax),
+    }
+}
+
+// Whether a parenthesis is opened there.
+pub(crate) fn is_opened(tokens: &[Token]) -> bool
+    ensures { result ≡ is_opened (kinds_of tokens.now) }
+{
+    match tokens {
+        [
+            Token {
+                kind: TokenKind::Symbol(Mark::Left),
+                ..
+            },
+            ..
+        ] => true,
+        _ => false,
+    }
+}
+
+#[tactic(auto, unfolding(crate::specs::Fronts::behind))]
+pub(crate) fn found_left(tokens: &[Token]) -> Option<&[Token]>
+    ensures { Finds (λ r. kinds_of r.now) result (behind opens (kinds_of tokens.now)) }
 {
     match tokens {
         [
@@ -57,9 +107,15 @@ pub(crate) fn left(tokens: &[Token]) -> Result<&[Token], ParseFault>
                 ..
             },
             rest @ ..,
-        ] => Ok(rest),
-        _ => Err(ParseFault::Syntax),
+        ] => Some(rest),
+        _ => None,
     }
+}
+
+pub(crate) fn left(tokens: &[Token]) -> Result<&[Token], ParseFault>
+    ensures { Gives (λ r. kinds_of r.now) result (behind opens (kinds_of tokens.now)) }
+{
+    found_left(tokens).ok_or(ParseFault::Syntax)
 }
 
 #[tactic(auto, unfolding(crate::specs::Fronts::behind))]

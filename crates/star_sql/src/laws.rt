@@ -1,7 +1,7 @@
 // Laws on statements and their spellings.
 ghost use Rattle.star_sql.specs.Reading.{SpelledOnce, DepthByPrefixes};
 
-/// Two well formed statements with one spelling are equal, where they are no SELECT and no EXPLAIN.
+/// Two well formed statements with one spelling are equal.
 pub fn one_spelling()
     ensures { SpelledOnce }
 {}

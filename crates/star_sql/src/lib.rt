@@ -2,13 +2,19 @@
 #![tactic(auto)]
 
 mod ast;
+mod columns;
+mod conditions;
 mod depth;
 pub mod examples;
 mod fault;
 mod fronts;
+mod items;
 mod laws;
 mod lists;
+mod literals;
 mod parsing;
+mod predicates;
+mod select;
 mod statements;
 mod words;
 
@@ -20,5 +26,7 @@ pub use fault::ParseFault;
 pub use laws::{depth_by_prefixes, one_spelling};
 pub use parsing::parse;
 
+#[cfg(test)]
+mod select_tests;
 #[cfg(test)]
 mod tests;

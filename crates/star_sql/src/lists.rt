@@ -1,10 +1,10 @@
 // Lists with a comma between each two members.
 ghost use Rattle.std.specs.Prelude.{length};
 ghost use Rattle.star_sql.specs.Reading.{kinds_of};
-ghost use Rattle.star_sql.specs.Fronts.{Gives, with_first, more_at, listed_at, enclosed_at};
+ghost use Rattle.star_sql.specs.Fronts.{Gives, is_comma, with_first, more_at, listed_at, inside_at, enclosed_at, optional_at, by_at};
 
 use crate::ParseFault;
-use crate::fronts::{comma, left, right};
+use crate::fronts::{comma, found_word, left, right, word};
 use blink_base::List;
 use star_lex::Token;
 use std::alloc::Global;
@@ -28,7 +28,7 @@ fn more<T: Front + Drop>(
     first: T,
     tokens: &[Token],
 ) -> Result<(List<T>, &[Token]), ParseFault>
-    ensures { Gives (λ x. (x.0, kinds_of x.1.now)) result (with_first first (more_at T.reads (length (kinds_of tokens.now)) (kinds_of tokens.now))) }
+    ensures { Gives (λ x. (x.0, kinds_of x.1.now)) result (with_first first (more_at is_comma T.reads (length (kinds_of tokens.now)) (kinds_of tokens.now))) }
 {
     let mut items = List::new(alloc);
     items.push(first)?;
@@ -44,7 +44,7 @@ fn more<T: Front + Drop>(
     Ok((items, rest))
 }
 
-#[tactic(auto, unfolding(crate::specs::Fronts::listed_at))]
+#[tactic(auto, unfolding(crate::specs::Fronts::separated_at))]
 pub(crate) fn listed<T: Front + Drop>(
     alloc: Global,
     tokens: &[Token],
@@ -55,7 +55,6 @@ pub(crate) fn listed<T: Front + Drop>(
     more(alloc, first, rest)
 }
 
-#[tactic(auto, unfolding(crate::specs::Fronts::enclosed_at))]
 pub(crate) fn enclosed<T: Front + Drop>(
     alloc: Global,
     tokens: &[Token],
@@ -65,4 +64,46 @@ pub(crate) fn enclosed<T: Front + Drop>(
     let inside = left(tokens)?;
     let (items, rest) = listed(alloc, inside)?;
     Ok((items, right(rest)?))
+}
+
+// What stands in parentheses.
+pub(crate) fn inside<T: Front + Drop>(
+    alloc: Global,
+    tokens: &[Token],
+) -> Result<(T, &[Token]), ParseFault>
+    ensures { Gives (λ x. (x.0, kinds_of x.1.now)) result (inside_at T.reads (kinds_of tokens.now)) }
+{
+    let (item, rest) = T::front(alloc, left(tokens)?)?;
+    Ok((item, right(rest)?))
+}
+
+// A word and what stands behind it, where the word is there.
+pub(crate) fn optional<'a, T: Front + Drop>(
+    alloc: Global,
+    first: &str,
+    tokens: &'a [Token],
+) -> Result<(Option<T>, &'a [Token]), ParseFault>
+    ensures { Gives (λ x. (x.0, kinds_of x.1.now)) result (optional_at first.now T.reads (kinds_of tokens.now)) }
+{
+    match found_word(first, tokens) {
+        Some(behind) => {
+            let (item, rest) = T::front(alloc, behind)?;
+            Ok((Some(item), rest))
+        }
+        None => Ok((None, tokens)),
+    }
+}
+
+// A list behind a word and BY, where the word is there.
+pub(crate) fn listed_by<'a, T: Front + Drop>(
+    alloc: Global,
+    first: &str,
+    tokens: &'a [Token],
+) -> Result<(List<T>, &'a [Token]), ParseFault>
+    ensures { Gives (λ x. (x.0, kinds_of x.1.now)) result (by_at first.now T.reads (kinds_of tokens.now)) }
+{
+    match found_word(first, tokens) {
+        Some(behind) => listed(alloc, word("by", behind)?),
+        None => Ok((List::new(alloc), tokens)),
+    }
 }

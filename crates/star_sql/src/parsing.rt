@@ -2,8 +2,9 @@
 ghost use Rattle.std.specs.Prelude.{◌≡◌, false, true, IfOk, Err};
 ghost use Rattle.star_sql.specs.declared.ast.Statement.{Statement};
 ghost use Rattle.star_sql.specs.declared.fault.ParseFault.TheVariants.{Deep, Syntax};
-ghost use Rattle.star_sql.specs.Reading.{kinds_of, is_deep, asks, IsSpelled};
-ghost use Rattle.star_sql.specs.Fronts.{Gives, whole};
+ghost use Rattle.star_sql.specs.Reading.{kinds_of, is_deep, IsSpelled};
+ghost use Rattle.star_sql.specs.Fronts.{Gives};
+ghost use Rattle.star_sql.specs.StatementFronts.{whole};
 
 use crate::depth::is_deep;
 use crate::statements::statement;
@@ -13,7 +14,7 @@ use star_lex::Token;
 use std::alloc::Global;
 
 // The statement that all of the tokens are.
-#[tactic(auto, unfolding(crate::specs::Fronts::whole))]
+#[tactic(auto, unfolding(crate::specs::StatementFronts::whole))]
 fn whole(alloc: Global, tokens: &[Token]) -> Result<Statement, ParseFault>
     ensures { Gives (λ s. s) result (whole (kinds_of tokens.now)) }
 {
@@ -26,21 +27,19 @@ fn whole(alloc: Global, tokens: &[Token]) -> Result<Statement, ParseFault>
 
 /// The statement that some tokens say: the well formed one that they are the spelling of.
 ///
-/// SELECT and EXPLAIN aren't parsed yet: they are [`ParseFault::Syntax`]. What isn't counted by parentheses is read
-/// without recursion, in time and memory linear in the number and the bytes of the tokens.
+/// It takes time and memory linear in the number and the bytes of the tokens. Only a condition in parentheses is read
+/// by recursion, so 32 times deep at most; lists of any length, those of AND and OR too, don't grow the stack.
 /// Source: ISO/IEC 9075, in this project's own profile.
-#[tactic(auto, using(crate::proofs::Inverse::gives_plain, crate::proofs::Inverse::gives_no_depth))]
+#[tactic(auto, using(crate::proofs::Inverse::gives_no_depth))]
 pub fn parse(alloc: Global, tokens: &List<Token>) -> Result<Statement, ParseFault>
     // The tokens are the spelling of the statement, which is well formed.
     ensures spelled { IfOk result (λ s. IsSpelled (kinds_of tokens.now) s) }
-    // It is no SELECT and no EXPLAIN.
-    ensures plain { IfOk result (λ s. asks s ≡ false) }
     // Not too many parentheses are open at once.
     ensures shallow { IfOk result (λ s. is_deep (kinds_of tokens.now) ≡ false) }
     // Too many parentheses are open at once.
     ensures deep { result ≡ Err Deep → is_deep (kinds_of tokens.now) ≡ true }
-    // Not too many are, and no such statement has this spelling.
-    ensures syntax { result ≡ Err Syntax → (is_deep (kinds_of tokens.now) ≡ false) × ((s : Statement) → asks s ≡ false → IsSpelled (kinds_of tokens.now) s → ⊥) }
+    // Not too many are, and no well formed statement has this spelling.
+    ensures syntax { result ≡ Err Syntax → (is_deep (kinds_of tokens.now) ≡ false) × ((s : Statement) → IsSpelled (kinds_of tokens.now) s → ⊥) }
 {
     if is_deep(tokens.as_slice()) {
         return Err(ParseFault::Deep);

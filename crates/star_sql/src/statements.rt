@@ -1,104 +1,18 @@
 // The statements, by their first words.
+ghost use Rattle.star_sql.specs.declared.ast.Statement.TheVariants as statement;
 ghost use Rattle.star_sql.specs.Reading.{kinds_of};
-ghost use Rattle.star_sql.specs.Fronts.{Gives, number_at, date_at, literal_at, definition_at, named_at, filed_at, create_at, insert_at, behind_word, statement_at};
+ghost use Rattle.star_sql.specs.Fronts.{Gives, made_of};
+ghost use Rattle.star_sql.specs.StatementFronts.{definition_at, named_at, filed_at, create_at, insert_at, of_both, behind_word, statement_at};
 
 use crate::fronts::{key, kind, name, text, word};
 use crate::lists::{Front, enclosed, listed};
+use crate::select::select;
 use crate::{ColumnDef, Literal, ParseFault, Statement};
 use blink_base::{List, Word};
-use star_lex::{Mark, Token, TokenKind};
+use star_lex::{Token, TokenKind};
 use std::alloc::Global;
 
-#[tactic(auto, unfolding(crate::specs::Fronts::number_at))]
-fn number(minus: bool, tokens: &[Token]) -> Result<(Literal, &[Token]), ParseFault>
-    ensures { Gives (λ x. (x.0, kinds_of x.1.now)) result (number_at minus (kinds_of tokens.now)) }
-{
-    match tokens {
-        [
-            Token {
-                kind: TokenKind::Number(value),
-                ..
-            },
-            rest @ ..,
-        ] if 0 <= *value && *value < 1_000_000_000_000_000 => {
-            Ok((
-                Literal::Number {
-                    minus,
-                    value: *value,
-                },
-                rest,
-            ))
-        }
-        _ => Err(ParseFault::Syntax),
-    }
-}
-
-#[tactic(auto, unfolding(crate::specs::Fronts::date_at))]
-fn date(alloc: Global, tokens: &[Token]) -> Result<(Literal, &[Token]), ParseFault>
-    ensures { Gives (λ x. (x.0, kinds_of x.1.now)) result (date_at (kinds_of tokens.now)) }
-{
-    let (date, rest) = text(alloc, tokens)?;
-    Ok((Literal::Date(date), rest))
-}
-
-#[tactic(auto, unfolding(crate::specs::Fronts::literal_at))]
-fn literal(alloc: Global, tokens: &[Token]) -> Result<(Literal, &[Token]), ParseFault>
-    ensures { Gives (λ x. (x.0, kinds_of x.1.now)) result (literal_at (kinds_of tokens.now)) }
-{
-    match tokens {
-        [
-            Token {
-                kind: TokenKind::Number(_),
-                ..
-            },
-            ..
-        ] => number(false, tokens),
-        [
-            Token {
-                kind: TokenKind::Symbol(Mark::Minus),
-                ..
-            },
-            rest @ ..,
-        ] => number(true, rest),
-        [
-            Token {
-                kind: TokenKind::Text(word),
-                ..
-            },
-            rest @ ..,
-        ] => Ok((Literal::Text(word.copy(alloc)?), rest)),
-        [
-            Token {
-                kind: TokenKind::Name(word),
-                ..
-            },
-            rest @ ..,
-        ] if word.as_str() == "date" => date(alloc, rest),
-        _ => Err(ParseFault::Syntax),
-    }
-}
-
-impl Front for Literal {
-    ghost use Rattle.star_sql.specs.Fronts.{literal_at};
-
-    ghost reads = { literal_at };
-
-    fn front(alloc: Global, tokens: &[Token]) -> Result<(Literal, &[Token]), ParseFault> {
-        literal(alloc, tokens)
-    }
-}
-
-impl Front for List<Literal> {
-    ghost use Rattle.star_sql.specs.Fronts.{enclosed_at, literal_at};
-
-    ghost reads = { enclosed_at literal_at };
-
-    fn front(alloc: Global, tokens: &[Token]) -> Result<(List<Literal>, &[Token]), ParseFault> {
-        enclosed(alloc, tokens)
-    }
-}
-
-#[tactic(auto, unfolding(crate::specs::Fronts::definition_at))]
+#[tactic(auto, unfolding(crate::specs::StatementFronts::definition_at))]
 fn definition(alloc: Global, tokens: &[Token]) -> Result<(ColumnDef, &[Token]), ParseFault>
     ensures { Gives (λ x. (x.0, kinds_of x.1.now)) result (definition_at (kinds_of tokens.now)) }
 {
@@ -109,7 +23,7 @@ fn definition(alloc: Global, tokens: &[Token]) -> Result<(ColumnDef, &[Token]), 
 }
 
 impl Front for ColumnDef {
-    ghost use Rattle.star_sql.specs.Fronts.{definition_at};
+    ghost use Rattle.star_sql.specs.StatementFronts.{definition_at};
 
     ghost reads = { definition_at };
 
@@ -118,7 +32,7 @@ impl Front for ColumnDef {
     }
 }
 
-#[tactic(auto, unfolding(crate::specs::Fronts::named_at))]
+#[tactic(auto, unfolding(crate::specs::StatementFronts::named_at))]
 fn named<'a>(
     alloc: Global,
     first: &str,
@@ -129,7 +43,7 @@ fn named<'a>(
     name(alloc, word(first, tokens)?)
 }
 
-#[tactic(auto, unfolding(crate::specs::Fronts::filed_at))]
+#[tactic(auto, unfolding(crate::specs::StatementFronts::filed_at))]
 fn filed<'a>(
     alloc: Global,
     first: &str,
@@ -143,18 +57,18 @@ fn filed<'a>(
     Ok((name, file, rest))
 }
 
-#[tactic(auto, unfolding(crate::specs::Fronts::create_at))]
+#[tactic(auto, unfolding(crate::specs::StatementFronts::create_at))]
 fn create(alloc: Global, tokens: &[Token]) -> Result<(Statement, &[Token]), ParseFault>
-    ensures { Gives (λ x. (x.0, kinds_of x.1.now)) result (create_at (kinds_of tokens.now)) }
+    ensures { Gives (λ x. (x.0, kinds_of x.1.now)) result (made_of (of_both statement.Create) (create_at (kinds_of tokens.now))) }
 {
     let (name, rest) = named(alloc, "table", tokens)?;
     let (columns, rest) = enclosed::<ColumnDef>(alloc, rest)?;
     Ok((Statement::Create { name, columns }, rest))
 }
 
-#[tactic(auto, unfolding(crate::specs::Fronts::insert_at))]
+#[tactic(auto, unfolding(crate::specs::StatementFronts::insert_at))]
 fn insert(alloc: Global, tokens: &[Token]) -> Result<(Statement, &[Token]), ParseFault>
-    ensures { Gives (λ x. (x.0, kinds_of x.1.now)) result (insert_at (kinds_of tokens.now)) }
+    ensures { Gives (λ x. (x.0, kinds_of x.1.now)) result (made_of (of_both statement.Insert) (insert_at (kinds_of tokens.now))) }
 {
     let (name, rest) = named(alloc, "into", tokens)?;
     let (rows, rest) = listed::<List<Literal>>(alloc, word("values", rest)?)?;
@@ -162,7 +76,7 @@ fn insert(alloc: Global, tokens: &[Token]) -> Result<(Statement, &[Token]), Pars
 }
 
 // What stands behind the first word of a statement.
-#[tactic(auto, unfolding(crate::specs::Fronts::behind_word))]
+#[tactic(auto, unfolding(crate::specs::StatementFronts::behind_word))]
 fn behind_word<'a>(
     alloc: Global,
     verb: &str,
@@ -189,9 +103,17 @@ fn behind_word<'a>(
             let (name, rest) = named(alloc, "table", tokens)?;
             Ok((Statement::Reorganize { name }, rest))
         }
+        "select" => {
+            let (query, rest) = select(alloc, tokens)?;
+            Ok((Statement::Select(query), rest))
+        }
         "describe" => {
             let (name, rest) = name(alloc, tokens)?;
             Ok((Statement::Describe { name }, rest))
+        }
+        "explain" => {
+            let (query, rest) = select(alloc, word("select", tokens)?)?;
+            Ok((Statement::Explain(query), rest))
         }
         "export" => {
             let (name, file, rest) = filed(alloc, "table", "to", tokens)?;
@@ -205,7 +127,7 @@ fn behind_word<'a>(
     }
 }
 
-#[tactic(auto, unfolding(crate::specs::Fronts::statement_at))]
+#[tactic(auto, unfolding(crate::specs::StatementFronts::statement_at))]
 pub(crate) fn statement(
     alloc: Global,
     tokens: &[Token],

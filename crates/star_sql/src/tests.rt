@@ -1,4 +1,5 @@
 use super::*;
+use crate::select_tests::select_line;
 use blink_base::List;
 use star_lex::{Token, tokens};
 use std::alloc::{AllocError, Global};
@@ -63,12 +64,13 @@ fn line_of(alloc: Global, statement: &Statement) -> Result<String, AllocError> {
             name.as_str(),
             file.as_str()
         ),
-        Statement::Select(_) | Statement::Explain(_) => String::from_str(alloc, "select"),
+        Statement::Select(query) => select_line(alloc, "select", query),
+        Statement::Explain(query) => select_line(alloc, "explain", query),
     }
 }
 
 // The tokens of a text.
-fn tokens_of(alloc: Global, text: &str) -> Result<List<Token>, AllocError> {
+pub(crate) fn tokens_of(alloc: Global, text: &str) -> Result<List<Token>, AllocError> {
     if text.len() > 2_000_000 {
         return Ok(List::new(alloc));
     }
@@ -79,7 +81,7 @@ fn tokens_of(alloc: Global, text: &str) -> Result<List<Token>, AllocError> {
 }
 
 // What a text says.
-fn shown(alloc: Global, text: &str) -> Result<String, AllocError> {
+pub(crate) fn shown(alloc: Global, text: &str) -> Result<String, AllocError> {
     match parse(alloc, &tokens_of(alloc, text)?) {
         Ok(statement) => line_of(alloc, &statement),
         Err(fault) => format!(in alloc; "{fault:?}"),
@@ -142,7 +144,6 @@ fn statements_are_read(rt: HostRuntime) -> Result<(), Fail> {
         ("(((((((((((((((((((((((((((((((((", "Deep"),
         (")(((((((((((((((((((((((((((((((((", "Syntax"),
         ("((((((((((((((((((((((((((((((((())", "Deep"),
-        ("SELECT a FROM t", "Syntax"),
     ] {
         let line = shown(alloc, text)?;
         assert_eq!(rt; line.as_str(), want, "where {want} is wanted");

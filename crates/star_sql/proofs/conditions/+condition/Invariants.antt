@@ -1,0 +1,22 @@
+use Rattle.std.proofs.Common.{◌≡◌, ◌+◌, ◌-◌, ◌*◌}
+use Rattle.std.specs.Prelude.{codes}
+use Rattle.star_sql.specs.Reading.{kinds_of}
+use Rattle.star_sql.specs.Fronts.{is_word, more_at, separated_at}
+use Rattle.star_sql.specs.ConditionFronts.{primary_at, conj_at, cond_at}
+use Rattle.star_sql.proofs.Loop.{with_front}
+use Rattle.star_sql.proofs.conditions.+condition.Given as goal
+
+abbrev pub decreases-condition : goal.decreases-condition
+decreases-condition l = 3 * l.depth + 2
+
+abbrev pub decreases-conjunction : goal.decreases-conjunction
+decreases-conjunction l = 3 * l.depth + 1
+
+abbrev pub decreases-primary : goal.decreases-primary
+decreases-primary l = 3 * l.depth
+
+abbrev pub invariant-condition-loop : goal.invariant-condition-loop
+invariant-condition-loop l = with_front l.any (more_at (is_word (codes "or")) (conj_at (cond_at l.depth)) (l.end - l.counter) (kinds_of l.rest)) ≡ separated_at (is_word (codes "or")) (conj_at (cond_at l.depth)) (kinds_of l.fn.tokens)
+
+abbrev pub invariant-conjunction-loop : goal.invariant-conjunction-loop
+invariant-conjunction-loop l = with_front l.all (more_at (is_word (codes "and")) (primary_at (cond_at l.depth)) (l.end - l.counter) (kinds_of l.rest)) ≡ separated_at (is_word (codes "and")) (primary_at (cond_at l.depth)) (kinds_of l.fn.tokens)

@@ -1,0 +1,132 @@
+// Tests of columns.
+ghost use Rattle.std.specs.Prelude.{◌≡◌};
+ghost use Rattle.star_sql.specs.Reading.{kinds_of};
+ghost use Rattle.star_sql.specs.Fronts.{Gives};
+ghost use Rattle.star_sql.specs.PredicateFronts.{op_of, compared_at, bounds_at, worded_at, tested_at, test_at};
+
+use crate::columns::column;
+use crate::fronts::{text, word};
+use crate::lists::enclosed;
+use crate::literals::literal;
+use crate::{ColumnName, Literal, ParseFault, TestWords};
+use blink_base::Op;
+use star_lex::{Mark, Token, TokenKind};
+use std::alloc::Global;
+
+// The comparison that a mark says.
+fn op_of(mark: Mark) -> Option<Op>
+    ensures { result ≡ op_of mark }
+{
+    match mark {
+        Mark::Equal => Some(Op::Equal),
+        Mark::Unequal => Some(Op::Unequal),
+        Mark::Less => Some(Op::Less),
+        Mark::LessEqual => Some(Op::LessEqual),
+        Mark::Greater => Some(Op::Greater),
+        Mark::GreaterEqual => Some(Op::GreaterEqual),
+        _ => None,
+    }
+}
+
+// A comparison with a literal, where one stands there, or else with a column.
+#[tactic(auto, unfolding(crate::specs::PredicateFronts::compared_at))]
+fn compared(
+    alloc: Global,
+    left: ColumnName,
+    op: Op,
+    tokens: &[Token],
+) -> Result<(TestWords, &[Token]), ParseFault>
+    ensures { Gives (λ x. (x.0, kinds_of x.1.now)) result (compared_at left op (kinds_of tokens.now)) }
+{
+    match literal(alloc, tokens) {
+        Ok((literal, rest)) => Ok((
+            TestWords::Compare {
+                column: left,
+                op,
+                literal,
+            },
+            rest,
+        )),
+        Err(ParseFault::Syntax) => {
+            let (right, rest) = column(alloc, tokens)?;
+            Ok((TestWords::Columns { left, op, right }, rest))
+        }
+        Err(fault) => Err(fault),
+    }
+}
+
+// Two literals with AND between them.
+#[tactic(auto, unfolding(crate::specs::PredicateFronts::bounds_at))]
+fn bounds(alloc: Global, tokens: &[Token]) -> Result<(Literal, Literal, &[Token]), ParseFault>
+    ensures { Gives (λ x. ((x.0, x.1), kinds_of x.2.now)) result (bounds_at (kinds_of tokens.now)) }
+{
+    let (low, rest) = literal(alloc, tokens)?;
+    let (high, rest) = literal(alloc, word("and", rest)?)?;
+    Ok((low, high, rest))
+}
+
+// What stands behind the word of a test.
+#[tactic(auto, unfolding(crate::specs::PredicateFronts::worded_at))]
+fn worded<'a>(
+    alloc: Global,
+    column: ColumnName,
+    word: &str,
+    tokens: &'a [Token],
+) -> Result<(TestWords, &'a [Token]), ParseFault>
+    ensures { Gives (λ x. (x.0, kinds_of x.1.now)) result (worded_at column word.now (kinds_of tokens.now)) }
+{
+    match word {
+        "between" => {
+            let (low, high, rest) = bounds(alloc, tokens)?;
+            Ok((TestWords::Between { column, low, high }, rest))
+        }
+        "in" => {
+            let (list, rest) = enclosed::<Literal>(alloc, tokens)?;
+            Ok((TestWords::Among { column, list }, rest))
+        }
+        "like" => {
+            let (pattern, rest) = text(alloc, tokens)?;
+            Ok((TestWords::Like { column, pattern }, rest))
+        }
+        _ => Err(ParseFault::Syntax),
+    }
+}
+
+// A test behind its column.
+#[tactic(auto, unfolding(crate::specs::PredicateFronts::tested_at))]
+fn tested(
+    alloc: Global,
+    column: ColumnName,
+    tokens: &[Token],
+) -> Result<(TestWords, &[Token]), ParseFault>
+    ensures { Gives (λ x. (x.0, kinds_of x.1.now)) result (tested_at column (kinds_of tokens.now)) }
+{
+    match tokens {
+        [
+            Token {
+                kind: TokenKind::Name(word),
+                ..
+            },
+            rest @ ..,
+        ] => worded(alloc, column, word.as_str(), rest),
+        [
+            Token {
+                kind: TokenKind::Symbol(mark),
+                ..
+            },
+            rest @ ..,
+        ] => match op_of(*mark) {
+            Some(op) => compared(alloc, column, op, rest),
+            None => Err(ParseFault::Syntax),
+        },
+        _ => Err(ParseFault::Syntax),
+    }
+}
+
+#[tactic(auto, unfolding(crate::specs::PredicateFronts::test_at))]
+pub(crate) fn test(alloc: Global, tokens: &[Token]) -> Result<(TestWords, &[Token]), ParseFault>
+    ensures { Gives (λ x. (x.0, kinds_of x.1.now)) result (test_at (kinds_of tokens.now)) }
+{
+    let (column, rest) = column(alloc, tokens)?;
+    tested(alloc, column, rest)
+}

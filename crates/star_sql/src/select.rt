@@ -1,0 +1,70 @@
+// SELECT.
+ghost use Rattle.std.specs.Prelude.{◌≡◌, Some};
+ghost use Rattle.star_sql.specs.Reading.{kinds_of};
+ghost use Rattle.star_sql.specs.Fronts.{Gives};
+ghost use Rattle.star_sql.specs.QueryFronts.{way_at, order_at, end_at, select_at};
+
+use crate::columns::column;
+use crate::fronts::{found_word, word};
+use crate::lists::{Front, listed, listed_by, optional};
+use crate::{ColumnName, Cond, Item, OrderKey, ParseFault, Select, Way};
+use blink_base::Word;
+use star_lex::Token;
+use std::alloc::Global;
+
+// What stands behind the key.
+#[tactic(auto, unfolding(crate::specs::QueryFronts::way_at))]
+fn way(tokens: &[Token]) -> (Way, &[Token])
+    ensures { way_at (kinds_of tokens.now) ≡ Some (result.0, kinds_of result.1.now) }
+{
+    if let Some(rest) = found_word("asc", tokens) {
+        return (Way::Asc, rest);
+    }
+    match found_word("desc", tokens) {
+        Some(rest) => (Way::Desc, rest),
+        None => (Way::Plain, tokens),
+    }
+}
+
+#[tactic(auto, unfolding(crate::specs::QueryFronts::order_at))]
+fn order_key(alloc: Global, tokens: &[Token]) -> Result<(OrderKey, &[Token]), ParseFault>
+    ensures { Gives (λ x. (x.0, kinds_of x.1.now)) result (order_at (kinds_of tokens.now)) }
+{
+    let (column, rest) = column(alloc, tokens)?;
+    let (way, rest) = way(rest);
+    Ok((OrderKey { column, way }, rest))
+}
+
+impl Front for OrderKey {
+    ghost use Rattle.star_sql.specs.QueryFronts.{order_at};
+
+    ghost reads = { order_at };
+
+    fn front(alloc: Global, tokens: &[Token]) -> Result<(OrderKey, &[Token]), ParseFault> {
+        order_key(alloc, tokens)
+    }
+}
+
+// What stands behind the word SELECT.
+#[tactic(auto, unfolding(crate::specs::QueryFronts::select_at, crate::specs::QueryFronts::end_at))]
+pub(crate) fn select(alloc: Global, tokens: &[Token]) -> Result<(Select, &[Token]), ParseFault>
+    ensures { Gives (λ x. (x.0, kinds_of x.1.now)) result (select_at (kinds_of tokens.now)) }
+{
+    let (items, rest) = listed::<Item>(alloc, tokens)?;
+    let (tables, rest) = listed::<Word>(alloc, word("from", rest)?)?;
+    let (condition, rest) = optional::<Cond>(alloc, "where", rest)?;
+    let (groups, rest) = listed_by::<ColumnName>(alloc, "group", rest)?;
+    let (order, rest) = listed_by::<OrderKey>(alloc, "order", rest)?;
+    let (limit, rest) = optional::<u64>(alloc, "limit", rest)?;
+    Ok((
+        Select {
+            items,
+            tables,
+            condition,
+            groups,
+            order,
+            limit,
+        },
+        rest,
+    ))
+}
