@@ -1,15 +1,18 @@
 //! The program, over a source, a sink and a store that are handed in.
 #![tactic(auto)]
 
+mod answers;
 mod count;
 pub mod examples;
 mod lines;
+mod options;
+mod pieces;
+mod script;
 mod status;
+mod told;
 mod top_call;
 mod words;
 
 pub use status::Status;
 pub use top_call::run;
 
-#[cfg(test)]
-mod tests;
