@@ -16,15 +16,15 @@ use Rattle.blink_run.specs.Script.{Runs, ends, passes, steps, Begins, left_by, o
 use Rattle.std.specs.Prelude.{Result, Ok, Err, IsErrAnd, IfErr}
 use Rattle.blink_run.specs.declared.pieces.Stop.{Stop}
 use Rattle.blink_run.specs.declared.pieces.Stop.TheVariants as stop
-use Rattle.blink_run.specs.Running.{Taking, GivesAll, IsStep, AreAnswered, AreLeft, AreCut, AreStopped}
+use Rattle.blink_run.specs.Running.{SinkView, GivesAll, IsStep, AreAnswered, AreLeft, AreCut, AreStopped}
 use Rattle.blink_run.proofs.Outcomes.{Runs-append}
 
 -- nothing is given
-pub gives_nothing : (x : Taking) → GivesAll x x []
+pub gives_nothing : (x : SinkView) → GivesAll x x []
 gives_nothing x = record { given = Appends-nil x.bytes; later = omega arith; sure = λ enough. (omega arith, refl) }
 
 -- bytes are given behind bytes
-pub GivesAll-trans : (a b c : Taking) (xs ys : Bytes) → GivesAll a b xs → GivesAll b c ys → GivesAll a c (xs ++ ys)
+pub GivesAll-trans : (a b c : SinkView) (xs ys : Bytes) → GivesAll a b xs → GivesAll b c ys → GivesAll a c (xs ++ ys)
 GivesAll-trans a b c xs ys p q =
     let long = length-append xs ys in
     record {
@@ -53,7 +53,7 @@ begins_behind limits state first second more x y p q = record {
 }
 
 -- pieces are answered behind pieces
-pub answered_behind : (limits : Limits) (state : State) (first second : List Bytes) (a b c : Taking) (r q : Bool)
+pub answered_behind : (limits : Limits) (state : State) (first second : List Bytes) (a b c : SinkView) (r q : Bool)
     → AreAnswered limits state first a b r → ((s : State) → AreAnswered limits s second b c q) → AreAnswered limits state (first ++ second) a c (r || q)
 answered_behind limits state first second a b c r q one all =
     let two = all (left_by state one.outcomes) in
@@ -65,7 +65,7 @@ answered_behind limits state first second a b c r q one all =
     }
 
 -- some first pieces are left behind pieces
-pub left_behind : (limits : Limits) (state : State) (first second more : List Bytes) (a b c : Taking) (r : Bool)
+pub left_behind : (limits : Limits) (state : State) (first second more : List Bytes) (a b c : SinkView) (r : Bool)
     → AreAnswered limits state first a b r → ((s : State) → AreLeft limits s second b c) → AreLeft limits state ((first ++ second) ++ more) a c
 left_behind limits state first second more a b c r one all =
     let two = all (left_by state one.outcomes) in
@@ -80,7 +80,7 @@ pub rose_before : (first later now : ℕ) → first ≤ later → Rose later now
 rose_before first later now le rose = grind arith
 
 -- the room is too small for what was given before and what is given now
-pub full_behind : (a b : Taking) (xs : Bytes) (n : ℕ) → GivesAll a b xs → b.room < n → a.room < length xs + n
+pub full_behind : (a b : SinkView) (xs : Bytes) (n : ℕ) → GivesAll a b xs → b.room < n → a.room < length xs + n
 full_behind a b xs n p full =
     elim (cases_lt a.room (length xs)) [
       | inl less ↦ omega arith
@@ -92,7 +92,7 @@ pub too_small : (n room : ℕ) → (n ≤ room → ⊥) → room < n
 too_small n room never = elim (cases_lt room n) [ inl less ↦ less | inr enough ↦ absurd (never enough) ]
 
 -- an output is cut behind pieces
-pub cut_behind : (limits : Limits) (state : State) (first second more : List Bytes) (a b c : Taking) (r : Bool)
+pub cut_behind : (limits : Limits) (state : State) (first second more : List Bytes) (a b c : SinkView) (r : Bool)
     → AreAnswered limits state first a b r → ((s : State) → AreCut limits s second b c) → AreCut limits state ((first ++ second) ++ more) a c
 cut_behind limits state first second more a b c r one all =
     let two = all (left_by state one.outcomes) in
@@ -114,7 +114,7 @@ cut_behind limits state first second more a b c r one all =
     }
 
 -- the run stops behind pieces
-pub stopped_behind : (limits : Limits) (state : State) (first second more : List Bytes) (a b c : Taking) (r : Bool) (why : Stop)
+pub stopped_behind : (limits : Limits) (state : State) (first second more : List Bytes) (a b c : SinkView) (r : Bool) (why : Stop)
     → AreAnswered limits state first a b r → ((s : State) → AreStopped limits s second b c why) → AreStopped limits state ((first ++ second) ++ more) a c why
 stopped_behind limits state first second more a b c r stop.Memory one all = left_behind limits state first second more a b c r one all
 stopped_behind limits state first second more a b c r stop.Fault one all = cut_behind limits state first second more a b c r one all
@@ -125,15 +125,15 @@ IfErr-from_is (Ok x) Q P is each = tt
 IfErr-from_is (Err e) Q P is each = each e is
 
 -- no piece is answered yet
-pub none_answered : (limits : Limits) (state : State) (x : Taking) → AreAnswered limits state [] x x false
+pub none_answered : (limits : Limits) (state : State) (x : SinkView) → AreAnswered limits state [] x x false
 none_answered limits state x = record { outcomes = []; runs = ends state; given = gives_nothing x; any = refl }
 
 -- a piece that is passed over gives nothing
-pub passed_answered : (limits : Limits) (text : Bytes) (x : Taking) → is_passed_over text ≡ true → (state : State) → AreAnswered limits state (text ∷ []) x x false
+pub passed_answered : (limits : Limits) (text : Bytes) (x : SinkView) → is_passed_over text ≡ true → (state : State) → AreAnswered limits state (text ∷ []) x x false
 passed_answered limits text x passed state = record { outcomes = []; runs = passes state text [] [] passed (ends state); given = gives_nothing x; any = refl }
 
 -- all pieces are left
-pub all_left : (limits : Limits) (texts : List Bytes) (x : Taking) → (state : State) → AreLeft limits state texts x x
+pub all_left : (limits : Limits) (texts : List Bytes) (x : SinkView) → (state : State) → AreLeft limits state texts x x
 all_left limits texts x state = record { outcomes = []; begins = record { done = []; left = texts; parts = refl; runs = ends state }; given = gives_nothing x }
 
 -- the outcome of a piece, alone
@@ -141,7 +141,7 @@ pub step_runs : (limits : Limits) (text line : Bytes) (refused : Bool) (p : IsSt
 step_runs limits text line refused p state = steps state text p.said [] [] p.kept p.says (ends _)
 
 -- a statement's line was given
-pub step_answered : (limits : Limits) (text line : Bytes) (refused : Bool) (old new : Taking) → IsStep limits text line refused → GivesAll old new line
+pub step_answered : (limits : Limits) (text line : Bytes) (refused : Bool) (old new : SinkView) → IsStep limits text line refused → GivesAll old new line
     → (state : State) → AreAnswered limits state (text ∷ []) old new refused
 step_answered limits text line refused old new p given state = record {
   outcomes = step limits state p.said ∷ [];
@@ -155,7 +155,7 @@ step_answered limits text line refused old new p given state = record {
     refused_once false = refl
 
 -- a statement's line was cut
-pub step_cut : (limits : Limits) (text line : Bytes) (refused : Bool) (old new : Taking) → IsStep limits text line refused
+pub step_cut : (limits : Limits) (text line : Bytes) (refused : Bool) (old new : SinkView) → IsStep limits text line refused
     → (k : ℕ) × (k < length line) × Appends old.bytes new.bytes (take k line) → Rose old.faults new.faults → old.faults ≤ new.faults → old.room < length line
     → (state : State) → AreCut limits state (text ∷ []) old new
 step_cut limits text line refused old new p part rose later full state = record {

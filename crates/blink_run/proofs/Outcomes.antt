@@ -46,10 +46,10 @@ goes_on limits state done left x all (steps s text said texts outcomes kept says
     elim (runs_by limits s (text ∷ texts ++ left) all q) [
       | inl (passed, r) ↦ absurd (cc (passed, kept))
       | inr (other, rest, also, also_says, r, are) ↦
-      let same : step limits s other ≡ step limits s said = one_step text limits s other said also_says says in
-      let next : Runs limits (step limits s said).state (texts ++ left) rest = subst (λ (o : Outcome). Runs limits o.state (texts ++ left) rest) same r in
-      let (more, runs, is) = goes_on limits (step limits s said).state texts left outcomes rest p next in
-      (more, runs, are ∙ ap (λ o. o ∷ rest) same ∙ ap (λ os. step limits s said ∷ os) is)
+          let same : step limits s other ≡ step limits s said = one_step text limits s other said also_says says in
+          let next : Runs limits (step limits s said).state (texts ++ left) rest = subst (λ (o : Outcome). Runs limits o.state (texts ++ left) rest) same r in
+          let (more, runs, is) = goes_on limits (step limits s said).state texts left outcomes rest p next in
+          (more, runs, are ∙ ap (λ o. o ∷ rest) same ∙ ap (λ os. step limits s said ∷ os) is)
     ]
 
 -- a script has one list of outcomes

@@ -30,12 +30,15 @@ pub record Outside : Type 0 where
   pub sink : Shown
   pub store : Stored
 
-abbrev pub shown : {X : Type 0} → (X → Option Bytes) → (X → ℕ) → X → Shown
-shown bytes faults object = record { bytes = bytes object; faults = faults object }
+-- the view of a source or a sink
+abbrev pub stream_view : {X : Type 0} → (X → Option Bytes) → (X → ℕ) → X → Shown
+stream_view bytes faults object = record { bytes = bytes object; faults = faults object }
 
-abbrev pub stored : {X : Type 0} → (X → Option store.Files) → (X → ℕ) → X → Stored
-stored files faults object = record { files = files object; faults = faults object }
+-- the view of a store
+abbrev pub store_view : {X : Type 0} → (X → Option store.Files) → (X → ℕ) → X → Stored
+store_view files faults object = record { files = files object; faults = faults object }
 
+-- the three together
 abbrev pub outside : Shown → Shown → Stored → Outside
 outside source sink store = record { source = source; sink = sink; store = store }
 

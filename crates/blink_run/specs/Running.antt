@@ -13,13 +13,14 @@ use Rattle.blink_run.specs.declared.pieces.Stop.{Stop}
 use Rattle.blink_run.specs.declared.pieces.Stop.TheVariants as stop
 
 -- a sink: its bytes, where it tells them, its count of faults, and how many more bytes it is sure to take
-pub record Taking : Type 0 where
+pub record SinkView : Type 0 where
   pub bytes : Option Bytes
   pub faults : ℕ
   pub room : ℕ
 
-abbrev pub taking : {W : Type 0} → (W → Option Bytes) → (W → ℕ) → (W → ℕ) → W → Taking
-taking bytes faults room sink = record { bytes = bytes sink; faults = faults sink; room = room sink }
+-- the view of a sink
+abbrev pub sink_view : {W : Type 0} → (W → Option Bytes) → (W → ℕ) → (W → ℕ) → W → SinkView
+sink_view bytes faults room sink = record { bytes = bytes sink; faults = faults sink; room = room sink }
 
 -- a piece is one statement, and these are the line of its step and whether it is refused, from any state, which stays
 pub record IsStep (limits : Limits) (text line : Bytes) (refused : Bool) : Type 0 where
@@ -29,26 +30,26 @@ pub record IsStep (limits : Limits) (text line : Bytes) (refused : Bool) : Type 
   pub steps : (state : State) → step limits state said ≡ record { state = state; printed = line; refused = refused }
 
 -- these bytes were given, and the count of faults stayed where there was room for them
-pub record GivesAll (old new : Taking) (bytes : Bytes) : Type 0 where
+pub record GivesAll (old new : SinkView) (bytes : Bytes) : Type 0 where
   pub given : Appends old.bytes new.bytes bytes
   pub later : old.faults ≤ new.faults
   pub sure : length bytes ≤ old.room → (old.room ≤ new.room + length bytes) × (new.faults ≡ old.faults)
 
 -- pieces were run from a state, all that they print was given, and this says whether one was refused
-pub record AreAnswered (limits : Limits) (state : State) (texts : List Bytes) (old new : Taking) (refused : Bool) : Type 0 where
+pub record AreAnswered (limits : Limits) (state : State) (texts : List Bytes) (old new : SinkView) (refused : Bool) : Type 0 where
   pub outcomes : List Outcome
   pub runs : Runs limits state texts outcomes
   pub given : GivesAll old new (concat (outputs_of outcomes))
   pub any : refused ≡ is_any_refused outcomes
 
 -- some first pieces were run, and all that they print was given
-pub record AreLeft (limits : Limits) (state : State) (texts : List Bytes) (old new : Taking) : Type 0 where
+pub record AreLeft (limits : Limits) (state : State) (texts : List Bytes) (old new : SinkView) : Type 0 where
   pub outcomes : List Outcome
   pub begins : Begins limits state texts outcomes
   pub given : GivesAll old new (concat (outputs_of outcomes))
 
--- some first pieces were run, and the last output was given up to a proper prefix; the count of faults rose, for want of room
-pub record AreCut (limits : Limits) (state : State) (texts : List Bytes) (old new : Taking) : Type 0 where
+-- some first pieces were run, and the last output was given up to a proper prefix; the count of faults rose, and no room was sure for all
+pub record AreCut (limits : Limits) (state : State) (texts : List Bytes) (old new : SinkView) : Type 0 where
   pub outcomes : List Outcome
   pub next : Outcome
   pub begins : Begins limits state texts (outcomes ++ next ∷ [])
@@ -60,6 +61,6 @@ pub record AreCut (limits : Limits) (state : State) (texts : List Bytes) (old ne
   pub full : old.room < length (concat (outputs_of outcomes)) + length next.printed
 
 -- why the run of the pieces stopped
-abbrev pub AreStopped : Limits → State → List Bytes → Taking → Taking → Stop → Type 0
+abbrev pub AreStopped : Limits → State → List Bytes → SinkView → SinkView → Stop → Type 0
 AreStopped limits state texts old new stop.Memory = AreLeft limits state texts old new
 AreStopped limits state texts old new stop.Fault = AreCut limits state texts old new

@@ -6,7 +6,7 @@ ghost use Rattle.blink_loader.specs.Range.{longest_input};
 ghost use Rattle.report_text.specs.Texts.{refusal_bytes};
 ghost use Rattle.star_engine.specs.Catalog.{Files};
 ghost use Rattle.blink_run.specs.Program.{count_told};
-ghost use Rattle.blink_run.specs.Ends.{Gives, shown};
+ghost use Rattle.blink_run.specs.Ends.{Gives, stream_view};
 ghost use Rattle.blink_run.specs.Words.{asked_of};
 ghost use Rattle.blink_run.specs.declared.words.Request.TheVariants.{Count};
 
@@ -31,11 +31,7 @@ fn unknown_column_line(alloc: Global, column: &str) -> Result<List<u8>, AllocErr
 
 // What the count of a column between two bounds tells of an input.
 #[tactic(auto, using(crate::proofs::Telling::told_count_by_answer))]
-fn tell_count(
-    alloc: Global,
-    bounds: Bounds<'_>,
-    input: &[u8],
-) -> Result<Told, AllocError>
+fn tell_count(alloc: Global, bounds: Bounds<'_>, input: &[u8]) -> Result<Told, AllocError>
     requires { length input.now ≤ longest_input }
     ensures line { IfOk result (λ told. told.line ≡ (count_told bounds.entry.column.now bounds.entry.low bounds.entry.high input.now).printed) }
     ensures refused { IfOk result (λ told. told.refused ≡ (count_told bounds.entry.column.now bounds.entry.low bounds.entry.high input.now).refused) }
@@ -66,7 +62,7 @@ pub(crate) fn answer_count<W: Sink>(
 ) -> Status
     requires { length input.now ≤ longest_input }
     ensures ends { (files : Files) → Gives (asked_of (Count bounds.entry)) files input.now
-        (shown W.given W.faults output.old) (shown W.given W.faults output.new) result }
+        (stream_view W.given W.faults output.old) (stream_view W.given W.faults output.new) result }
     ensures later { W.faults output.old ≤ W.faults output.new }
     ensures sure { length (count_told bounds.entry.column.now bounds.entry.low bounds.entry.high input.now).printed ≤ W.sure_room output.old
         → W.faults output.new ≡ W.faults output.old }

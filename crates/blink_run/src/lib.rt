@@ -4,6 +4,7 @@
 mod answers;
 mod count;
 pub mod examples;
+pub mod laws;
 mod lines;
 mod options;
 mod pieces;
@@ -16,3 +17,5 @@ mod words;
 pub use status::Status;
 pub use top_call::run;
 
+#[cfg(test)]
+mod tests;

@@ -1,5 +1,5 @@
 // The options of `run`.
-ghost use Rattle.std.specs.Prelude.{◌≡◌, map, string_bytes};
+ghost use Rattle.std.specs.Prelude.{◌≡◌, [], ◌∷◌, map, string_bytes};
 ghost use Rattle.blink_run.specs.Options.{from_one_to, limits_of, limits_made, number_within, option_number, rows_option, blocks_option};
 
 use blink_base::{Limits, whole_number};
@@ -49,17 +49,17 @@ fn option_number(option: &str, most: u64, word: &str, number: &str) -> Option<u6
 }
 
 // The number of `--rows`.
-fn rows(word: &String, number: &String) -> Option<u64>
-    ensures { result ≡ rows_option (string_bytes word.now) (string_bytes number.now) }
+fn rows(word: &str, number: &str) -> Option<u64>
+    ensures { result ≡ rows_option word.now number.now }
 {
-    option_number("--rows", STANDARD_ROWS, word.as_str(), number.as_str())
+    option_number("--rows", STANDARD_ROWS, word, number)
 }
 
 // The number of `--blocks`.
-fn blocks(word: &String, number: &String) -> Option<u64>
-    ensures { result ≡ blocks_option (string_bytes word.now) (string_bytes number.now) }
+fn blocks(word: &str, number: &str) -> Option<u64>
+    ensures { result ≡ blocks_option word.now number.now }
 {
-    option_number("--blocks", STANDARD_BLOCKS, word.as_str(), number.as_str())
+    option_number("--blocks", STANDARD_BLOCKS, word, number)
 }
 
 // The limits of both numbers, where both are there.
@@ -72,20 +72,39 @@ fn limits(rows: Option<u64>, blocks: Option<u64>) -> Option<Limits>
     })
 }
 
+// The limits that one option says.
+fn one_option(word: &str, number: &str) -> Option<Limits>
+    ensures { result ≡ limits_of (word.now ∷ number.now ∷ []) }
+{
+    match limits(rows(word, number), Some(STANDARD_BLOCKS)) {
+        Some(limits) => Some(limits),
+        None => limits(Some(STANDARD_ROWS), blocks(word, number)),
+    }
+}
+
+// The limits that both options say, in any order.
+fn both_options(first: &str, number: &str, second: &str, other: &str) -> Option<Limits>
+    ensures { result ≡ limits_of (first.now ∷ number.now ∷ second.now ∷ other.now ∷ []) }
+{
+    match limits(rows(first, number), blocks(second, other)) {
+        Some(limits) => Some(limits),
+        None => limits(rows(second, other), blocks(first, number)),
+    }
+}
+
 // The limits that the words behind `run` say: each option at most once, in any order.
 pub(crate) fn limits_of(words: &[String]) -> Option<Limits>
     ensures { result ≡ limits_of (map string_bytes words.now) }
 {
     match words {
         [] => limits(Some(STANDARD_ROWS), Some(STANDARD_BLOCKS)),
-        [a, n] => match limits(rows(a, n), Some(STANDARD_BLOCKS)) {
-            Some(limits) => Some(limits),
-            None => limits(Some(STANDARD_ROWS), blocks(a, n)),
-        },
-        [a, n, b, m] => match limits(rows(a, n), blocks(b, m)) {
-            Some(limits) => Some(limits),
-            None => limits(rows(b, m), blocks(a, n)),
-        },
+        [word, number] => one_option(word.as_str(), number.as_str()),
+        [first, number, second, other] => both_options(
+            first.as_str(),
+            number.as_str(),
+            second.as_str(),
+            other.as_str(),
+        ),
         _ => None,
     }
 }

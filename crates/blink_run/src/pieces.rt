@@ -2,7 +2,7 @@
 ghost use Rattle.std.specs.Prelude.{◌≡◌, ◌≤◌, [], ◌∷◌, length, map, IfOk, IfErr, All};
 ghost use Rattle.blink_base.specs.Words.{longest_script};
 ghost use Rattle.star_engine.specs.Catalog.{State};
-ghost use Rattle.blink_run.specs.Running.{AreAnswered, AreStopped, taking};
+ghost use Rattle.blink_run.specs.Running.{AreAnswered, AreStopped, sink_view};
 ghost use Rattle.blink_run.specs.Places.{IsWithin, text_at};
 
 use crate::answers::answer_by;
@@ -38,9 +38,9 @@ fn answer_piece<W: Sink>(
 ) -> Result<bool, Stop>
     requires { length text.now ≤ longest_script }
     ensures answered { IfOk result (λ refused. (state : State) → AreAnswered limits state (text.now ∷ [])
-        (taking W.given W.faults W.sure_room output.old) (taking W.given W.faults W.sure_room output.new) refused) }
+        (sink_view W.given W.faults W.sure_room output.old) (sink_view W.given W.faults W.sure_room output.new) refused) }
     ensures stopped { IfErr result (λ why. (state : State) → AreStopped limits state (text.now ∷ [])
-        (taking W.given W.faults W.sure_room output.old) (taking W.given W.faults W.sure_room output.new) why) }
+        (sink_view W.given W.faults W.sure_room output.old) (sink_view W.given W.faults W.sure_room output.new) why) }
 {
     let told = match answer_by(alloc, limits, text) {
         Ok(Some(told)) => told,
@@ -64,9 +64,9 @@ pub(crate) fn answer_pieces<W: Sink>(
     requires short { length script.now ≤ longest_script }
     requires within { All (IsWithin script.now) places.now }
     ensures answered { IfOk result (λ refused. (state : State) → AreAnswered limits state (map (text_at script.now) places.now)
-        (taking W.given W.faults W.sure_room output.old) (taking W.given W.faults W.sure_room output.new) refused) }
+        (sink_view W.given W.faults W.sure_room output.old) (sink_view W.given W.faults W.sure_room output.new) refused) }
     ensures stopped { IfErr result (λ why. (state : State) → AreStopped limits state (map (text_at script.now) places.now)
-        (taking W.given W.faults W.sure_room output.old) (taking W.given W.faults W.sure_room output.new) why) }
+        (sink_view W.given W.faults W.sure_room output.old) (sink_view W.given W.faults W.sure_room output.new) why) }
 {
     let mut refused = false;
     for place in places {

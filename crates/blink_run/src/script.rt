@@ -5,7 +5,7 @@ ghost use Rattle.star_engine.specs.Catalog.{Files};
 ghost use Rattle.star_engine.specs.Step.{Outcome};
 ghost use Rattle.blink_run.specs.Script.{ScriptRuns};
 ghost use Rattle.blink_run.specs.Program.{to_run, told_script};
-ghost use Rattle.blink_run.specs.Ends.{Gives, shown};
+ghost use Rattle.blink_run.specs.Ends.{Gives, stream_view};
 
 use crate::Status;
 use crate::pieces::{Stop, answer_pieces};
@@ -23,7 +23,7 @@ pub(crate) fn answer_script<W: Sink>(
 ) -> Status
     requires { length script.now ≤ longest_script }
     ensures ends { (files : Files) → Gives (to_run limits) files script.now
-        (shown W.given W.faults output.old) (shown W.given W.faults output.new) result }
+        (stream_view W.given W.faults output.old) (stream_view W.given W.faults output.new) result }
     ensures later { W.faults output.old ≤ W.faults output.new }
     ensures sure { (files : Files) (outcomes : List Outcome) → ScriptRuns limits files script.now outcomes
         → length (told_script outcomes).printed ≤ W.sure_room output.old → W.faults output.new ≡ W.faults output.old }

@@ -4,7 +4,7 @@ ghost use Rattle.report_text.specs.Texts.{usage_bytes};
 ghost use Rattle.blink_loader.specs.Range.{longest_input};
 ghost use Rattle.star_engine.specs.Catalog.{Files};
 ghost use Rattle.blink_run.specs.Program.{asked_by, nothing_known, Told, Tells};
-ghost use Rattle.blink_run.specs.Ends.{Ends, IsComplete, Gives, AreFiles, outside, shown, stored};
+ghost use Rattle.blink_run.specs.Ends.{Ends, IsComplete, Gives, AreFiles, outside, stream_view, store_view};
 ghost use Rattle.blink_run.specs.Words.{asked_of};
 
 use crate::Status;
@@ -20,7 +20,7 @@ const LONGEST_INPUT: u64 = 67_108_864;
 
 // Prints how the program is used. It takes no memory.
 fn answer_usage<W: Sink>(output: &mut W) -> Status
-    ensures ends { (files : Files) (input : List ℕ) → Gives nothing_known files input (shown W.given W.faults output.old) (shown W.given W.faults output.new) result }
+    ensures ends { (files : Files) (input : List ℕ) → Gives nothing_known files input (stream_view W.given W.faults output.old) (stream_view W.given W.faults output.new) result }
     ensures later { W.faults output.old ≤ W.faults output.new }
     ensures sure { length usage_bytes ≤ W.sure_room output.old → W.faults output.new ≡ W.faults output.old }
 {
@@ -33,7 +33,7 @@ fn answer_usage<W: Sink>(output: &mut W) -> Status
 // Answers what is asked, over an input.
 fn answer<W: Sink>(alloc: Global, request: Request<'_>, input: &[u8], output: &mut W) -> Status
     requires { length input.now ≤ longest_input }
-    ensures ends { (files : Files) → Gives (asked_of request.entry) files input.now (shown W.given W.faults output.old) (shown W.given W.faults output.new) result }
+    ensures ends { (files : Files) → Gives (asked_of request.entry) files input.now (stream_view W.given W.faults output.old) (stream_view W.given W.faults output.new) result }
     ensures later { W.faults output.old ≤ W.faults output.new }
     ensures sure { (files : Files) (told : Told) → Tells (asked_of request.entry) files input.now told
         → length told.printed ≤ W.sure_room output.old → W.faults output.new ≡ W.faults output.old }
@@ -65,11 +65,11 @@ pub fn run<R: Source, W: Sink, S: Store>(
     store: &mut S,
 ) -> Status
     ensures ends { Ends (asked_by (map string_bytes words.now))
-        (outside (shown R.left R.faults input.old) (shown W.given W.faults output.old) (stored S.files S.faults store.old))
-        (outside (shown R.left R.faults input.new) (shown W.given W.faults output.new) (stored S.files S.faults store.new)) result }
+        (outside (stream_view R.left R.faults input.old) (stream_view W.given W.faults output.old) (store_view S.files S.faults store.old))
+        (outside (stream_view R.left R.faults input.new) (stream_view W.given W.faults output.new) (store_view S.files S.faults store.new)) result }
     ensures complete { IsComplete (asked_by (map string_bytes words.now))
-        (outside (shown R.left R.faults input.old) (shown W.given W.faults output.old) (stored S.files S.faults store.old))
-        (outside (shown R.left R.faults input.new) (shown W.given W.faults output.new) (stored S.files S.faults store.new)) result }
+        (outside (stream_view R.left R.faults input.old) (stream_view W.given W.faults output.old) (store_view S.files S.faults store.old))
+        (outside (stream_view R.left R.faults input.new) (stream_view W.given W.faults output.new) (store_view S.files S.faults store.new)) result }
 
     // The store is as it was, and for words in no stated form so is the source.
     ensures store_kept { store.new ≡ store.old }

@@ -1,5 +1,5 @@
 use Rattle.std.proofs.Common.{length}
-use Rattle.blink_run.specs.Running.{GivesAll, taking}
+use Rattle.blink_run.specs.Running.{GivesAll, sink_view}
 use Rattle.blink_run.proofs.Answering.{passed_answered, all_left, step_answered, step_cut, too_small}
 use Rattle.blink_run.proofs.pieces.answer_piece.Goals as goal
 
@@ -11,8 +11,8 @@ returns-in-Err-clause-stopped g c = all_left c.args.limits _ _
 
 pub returns-in-Ok-clause-answered : goal.returns-in-Ok-clause-answered
 returns-in-Ok-clause-answered g c =
-    let old = taking g.W.Sink.given g.W.Sink.faults g.W.Sink.sure_room c.args.output.now in
-    let new = taking g.W.Sink.given g.W.Sink.faults g.W.Sink.sure_room c.write_all.new.sink in
+    let old = sink_view g.W.Sink.given g.W.Sink.faults g.W.Sink.sure_room c.args.output.now in
+    let new = sink_view g.W.Sink.given g.W.Sink.faults g.W.Sink.sure_room c.write_all.new.sink in
     let wrote : GivesAll old new c.as_slice.result.now = record {
       given = c.in-Ok.ensures.all;
       later = c.in-Ok.ensures.cause.later;

@@ -1,7 +1,7 @@
 use Rattle.std.proofs.Common.{◌∙◌, true, false}
 use Rattle.std.specs.Prelude.{None}
 use Rattle.blink_run.specs.Script.{start}
-use Rattle.blink_run.specs.Running.{taking}
+use Rattle.blink_run.specs.Running.{sink_view}
 use Rattle.blink_run.proofs.Answering.{all_left}
 use Rattle.blink_run.proofs.Giving.{all_given, first_given, part_given, left_sure, answered_left, cut_sure}
 use Rattle.blink_run.proofs.Within.{pieces_within}
@@ -9,7 +9,7 @@ use Rattle.blink_run.proofs.script.answer_script.Goals as goal
 
 pub returns-in-Err-clause-ends : goal.returns-in-Err-clause-ends
 returns-in-Err-clause-ends g c files =
-    let sink = taking g.W.Sink.given g.W.Sink.faults g.W.Sink.sure_room c.args.output.now in
+    let sink = sink_view g.W.Sink.given g.W.Sink.faults g.W.Sink.sure_room c.args.output.now in
     first_given c.args.limits files c.args.script.now sink sink (all_left c.args.limits _ sink (start files))
 
 pub answer_pieces-requires-clause-within : goal.answer_pieces-requires-clause-within
