@@ -1,2 +1,9 @@
+pub mod Saying
+pub mod Answering
 pub mod Ending
+pub mod Giving
+pub mod LimitsOf
+pub mod Outcomes
+pub mod Steps
 pub mod Telling
+pub mod Within

@@ -1,62 +1,122 @@
 -- How a run ends. Source: this project's own.
-use Rattle.std.specs.Prelude.{◌≡◌, ◌<◌, ◌≤◌, ◌+◌, ℕ, [], length, take, Option, Some}
+use Rattle.std.specs.Prelude.{◌≡◌, ◌<◌, ◌≤◌, ◌+◌, ◌⊎◌, ℕ, List, [], ◌∷◌, ◌++◌, length, take, Option, Some, None}
+use Rattle.std.specs.List.{concat}
+use Rattle.std.specs.FinMap.{get}
 use Rattle.std.specs.Io.KnownBytes.{Appends, Consumes, IsAtEnd, Keeps}
 use Rattle.blink_edge.specs.Causes.{Rose}
-use Rattle.report_text.specs.Texts.{Bytes}
+use Rattle.blink_edge.specs.Files as store
+use Rattle.report_text.specs.Texts.{Bytes, usage_bytes}
 use Rattle.blink_loader.specs.Range.{longest_input}
-use Rattle.blink_run.specs.Program.{Asked, to_count, nothing_known, told_by, status_of}
+use Rattle.star_engine.specs.Catalog.{Files}
+use Rattle.star_engine.specs.Step.{Outcome}
+use Rattle.blink_run.specs.Script.{ScriptBegins, outputs_of}
+use Rattle.blink_run.specs.Program.{Asked, to_run, to_count, nothing_known, Told, Tells, count_told, status_of}
 use Rattle.blink_run.specs.declared.status.Status.{Status}
 use Rattle.blink_run.specs.declared.status.Status.TheVariants as status
 
--- what an object of the outside shows: its bytes, where it tells them, and its count of faults
+-- what a source or a sink shows: its bytes, where it tells them, and its count of faults
 pub record Shown : Type 0 where
   pub bytes : Option Bytes
   pub faults : ℕ
 
--- what the source and the sink of a run show
+-- what a store shows: its files, where it tells them, and its count of faults
+pub record Stored : Type 0 where
+  pub files : Option store.Files
+  pub faults : ℕ
+
+-- what the source, the sink and the store of a run show
 pub record Outside : Type 0 where
   pub source : Shown
   pub sink : Shown
+  pub store : Stored
 
-abbrev pub outside : {R W : Type 0} → (R → Option Bytes) → (R → ℕ) → (W → Option Bytes) → (W → ℕ) → R → W → Outside
-outside left source_faults given sink_faults source sink =
-    record { source = record { bytes = left source; faults = source_faults source }; sink = record { bytes = given sink; faults = sink_faults sink } }
+-- the view of a source or a sink
+abbrev pub stream_view : {X : Type 0} → (X → Option Bytes) → (X → ℕ) → X → Shown
+stream_view bytes faults object = record { bytes = bytes object; faults = faults object }
+
+-- the view of a store
+abbrev pub store_view : {X : Type 0} → (X → Option store.Files) → (X → ℕ) → X → Stored
+store_view files faults object = record { files = files object; faults = faults object }
+
+-- the three together
+abbrev pub outside : Shown → Shown → Stored → Outside
+outside source sink store = record { source = source; sink = sink; store = store }
+
+-- these are the files of a store, where it tells them
+abbrev pub AreFiles : Option store.Files → Files → Type 0
+AreFiles None files = Unit {0}
+AreFiles (Some held) files = (name : Bytes) → files name ≡ get held name
 
 -- the words are in a form that reads the input
 abbrev pub ReadsInput : Asked → Type 0
+ReadsInput (to_run limits) = Unit {0}
 ReadsInput (to_count column low high) = Unit {0}
 ReadsInput nothing_known = ⊥
 
--- this input was read: a count reads the source to its end, and words in no form leave it as it was
+-- the source was read to its end
+abbrev pub IsReadWhole : Shown → Shown → Bytes → Type 0
+IsReadWhole old new input = Consumes old.bytes new.bytes input × IsAtEnd new.bytes × (length input ≤ longest_input)
+
+-- this input was read: a script and a count read the source to its end, and words in no form leave it as it was
 abbrev pub IsRead : Asked → Shown → Shown → Bytes → Type 0
-IsRead (to_count column low high) old new input = Consumes old.bytes new.bytes input × IsAtEnd new.bytes × (length input ≤ longest_input)
+IsRead (to_run limits) old new input = IsReadWhole old new input
+IsRead (to_count column low high) old new input = IsReadWhole old new input
 IsRead nothing_known old new input = (input ≡ []) × (new ≡ old)
 
 -- at most so many bytes were taken
 abbrev pub TakesAtMost : ℕ → Shown → Shown → Type 0
 TakesAtMost most old new = (taken : Bytes) × Consumes old.bytes new.bytes taken × (length taken ≤ most)
 
--- the input was read, all that it tells was given, and the status is its
+-- all that is told was given, and the status is its
+abbrev pub AllGiven : Asked → Files → Bytes → Shown → Shown → Status → Type 0
+AllGiven asked files input old new answer = (told : Told) × Tells asked files input told × Appends old.bytes new.bytes told.printed × (answer ≡ status_of asked told)
+
+-- an output was given up to a proper prefix of it, behind what was given before
+abbrev pub GivesPart : Shown → Shown → Bytes → Bytes → Type 0
+GivesPart old new before output = (k : ℕ) × (k < length output) × Appends old.bytes new.bytes (before ++ take k output)
+
+-- the outputs of some first statements were given, and a proper prefix of the next one's; a count and words in no form have one output
+abbrev pub PartGiven : Asked → Files → Bytes → Shown → Shown → Type 0
+PartGiven (to_run limits) files input old new = (outcomes : List Outcome) × (next : Outcome)
+    × ScriptBegins limits files input (outcomes ++ next ∷ []) × GivesPart old new (concat (outputs_of outcomes)) next.printed
+PartGiven (to_count column low high) files input old new = GivesPart old new [] (count_told column low high input).printed
+PartGiven nothing_known files input old new = GivesPart old new [] usage_bytes
+
+-- the outputs of some first statements were given whole; a count gave nothing
+abbrev pub FirstGiven : Asked → Files → Bytes → Shown → Shown → Type 0
+FirstGiven (to_run limits) files input old new = (outcomes : List Outcome)
+    × ScriptBegins limits files input outcomes × Appends old.bytes new.bytes (concat (outputs_of outcomes))
+FirstGiven (to_count column low high) files input old new = Keeps old.bytes new.bytes
+FirstGiven nothing_known files input old new = ⊥
+
+-- what was given where the input was read, and the run then ended with a status
+abbrev pub Gives : Asked → Files → Bytes → Shown → Shown → Status → Type 0
+Gives asked files input old new status.Done = AllGiven asked files input old new status.Done
+Gives asked files input old new status.Refused = AllGiven asked files input old new status.Refused
+Gives asked files input old new status.Usage = AllGiven asked files input old new status.Usage
+Gives asked files input old new status.ReadFault = ⊥
+Gives asked files input old new status.WriteFault = Rose old.faults new.faults × PartGiven asked files input old new
+Gives asked files input old new status.Memory = FirstGiven asked files input old new
+Gives asked files input old new status.StoreFault = ⊥
+Gives asked files input old new status.Long = ⊥
+
+-- the input was read, the files are the store's, and this was given
 abbrev pub IsAnswered : Asked → Outside → Outside → Status → Type 0
-IsAnswered asked old new answer = (input : Bytes) × IsRead asked old.source new.source input
-    × Appends old.sink.bytes new.sink.bytes (told_by asked input).printed × (answer ≡ status_of asked input)
+IsAnswered asked old new answer = (input : Bytes) × (files : Files) × IsRead asked old.source new.source input
+    × AreFiles old.store.files files × Gives asked files input old.sink new.sink answer
 
--- a proper prefix of an output was given
-abbrev pub GivesPart : Shown → Shown → Bytes → Type 0
-GivesPart old new output = (k : ℕ) × (k < length output) × Appends old.bytes new.bytes (take k output)
-
--- the input was read, and a proper prefix of what it tells was given
-abbrev pub IsCutShort : Asked → Outside → Outside → Type 0
-IsCutShort asked old new = (input : Bytes) × IsRead asked old.source new.source input × GivesPart old.sink new.sink (told_by asked input).printed
+-- nothing was given, and at most so many bytes were taken
+abbrev pub NothingGiven : Asked → ℕ → Outside → Outside → Type 0
+NothingGiven asked most old new = ReadsInput asked × Keeps old.sink.bytes new.sink.bytes × TakesAtMost most old.source new.source
 
 -- what holds where a run ends with a status
 abbrev pub Ends : Asked → Outside → Outside → Status → Type 0
 Ends asked old new status.Done = IsAnswered asked old new status.Done
 Ends asked old new status.Refused = IsAnswered asked old new status.Refused
 Ends asked old new status.Usage = IsAnswered asked old new status.Usage
-Ends asked old new status.ReadFault = ReadsInput asked × Rose old.source.faults new.source.faults × Keeps old.sink.bytes new.sink.bytes × TakesAtMost longest_input old.source new.source
-Ends asked old new status.WriteFault = Rose old.sink.faults new.sink.faults × IsCutShort asked old new
-Ends asked old new status.Memory = ReadsInput asked × Keeps old.sink.bytes new.sink.bytes × TakesAtMost (longest_input + 1) old.source new.source
+Ends asked old new status.ReadFault = Rose old.source.faults new.source.faults × NothingGiven asked longest_input old new
+Ends asked old new status.WriteFault = IsAnswered asked old new status.WriteFault
+Ends asked old new status.Memory = NothingGiven asked (longest_input + 1) old new ⊎ IsAnswered asked old new status.Memory
 Ends asked old new status.StoreFault = ⊥
 Ends asked old new status.Long = ReadsInput asked × Keeps old.sink.bytes new.sink.bytes
     × (taken : Bytes) × Consumes old.source.bytes new.source.bytes taken × (length taken ≡ longest_input + 1)
@@ -72,8 +132,12 @@ IsAnswerOrMemory status.Memory = Unit {0}
 IsAnswerOrMemory status.StoreFault = ⊥
 IsAnswerOrMemory status.Long = ⊥
 
--- where no count of faults rose and the input isn't too long, a run is answered, but for memory; words in no form need none
+-- the source tells an input that isn't too long, and its count of faults did not rise
+abbrev pub IsInputThere : Shown → Shown → Type 0
+IsInputThere old new = (input : Bytes) × (old.bytes ≡ Some input) × (length input ≤ longest_input) × ¬ (Rose old.faults new.faults)
+
+-- where no count of faults rose and the input isn't too long, a run is answered, but for want of memory; words in no form need none
 abbrev pub IsComplete : Asked → Outside → Outside → Status → Type 0
-IsComplete (to_count column low high) old new answer = (input : Bytes) → old.source.bytes ≡ Some input → length input ≤ longest_input
-    → ¬ (Rose old.source.faults new.source.faults) → ¬ (Rose old.sink.faults new.sink.faults) → IsAnswerOrMemory answer
+IsComplete (to_run limits) old new answer = IsInputThere old.source new.source → ¬ (Rose old.sink.faults new.sink.faults) → IsAnswerOrMemory answer
+IsComplete (to_count column low high) old new answer = IsInputThere old.source new.source → ¬ (Rose old.sink.faults new.sink.faults) → IsAnswerOrMemory answer
 IsComplete nothing_known old new answer = ¬ (Rose old.sink.faults new.sink.faults) → answer ≡ status.Usage

@@ -1,9 +1,17 @@
 -- Worked runs, as facts that compute. Source: this project's own.
-use Rattle.std.specs.Prelude.{◌≡◌, pos, negsuc, [], ◌∷◌, codes, true, false, refl}
+use Rattle.std.specs.Prelude.{◌≡◌, pos, negsuc, [], ◌∷◌, ◌++◌, replicate, codes, true, false, None, Ok, Err, refl}
 use Rattle.std.specs.Fmt.{digits}
 use Rattle.blink_loader.specs.Records.{next_record, records_from, strip_bom}
-use Rattle.blink_run.specs.declared.status.Status.TheVariants as status
-use Rattle.blink_run.specs.Program.{asked_by, to_count, nothing_known, told_by, status_of}
+use Rattle.blink_base.specs.declared.refusal.Refusal.TheVariants as refusal
+use Rattle.star_sql.specs.declared.ast.Statement.{Statement}
+use Rattle.star_sql.specs.declared.ast.Statement.TheVariants as statement
+use Rattle.star_sql.specs.declared.ast.What.TheVariants as what
+use Rattle.star_engine.specs.Catalog.{Files}
+use Rattle.star_engine.specs.Step.{step}
+use Rattle.report_text.specs.Texts.{Bytes}
+use Rattle.blink_run.specs.Options.{standard_limits}
+use Rattle.blink_run.specs.Script.{ends, passes, steps}
+use Rattle.blink_run.specs.Program.{asked_by, to_run, to_count, nothing_known, count_told, Tells}
 
 -- the words of a count, and words in no stated form
 abbrev pub WordsAsked : Type 0
@@ -14,22 +22,90 @@ WordsAsked =
     × (asked_by (codes "range" ∷ codes "a" ∷ codes "1" ∷ codes "+2" ∷ []) ≡ nothing_known)
     × (asked_by (codes "range" ∷ codes "a" ∷ codes "1" ∷ codes "2" ∷ codes "3" ∷ []) ≡ nothing_known)
     × (asked_by (codes "range" ∷ codes "a" ∷ codes "1" ∷ codes "1000000000000000" ∷ []) ≡ nothing_known)
-    × (asked_by (codes "run" ∷ []) ≡ nothing_known)
+    × (asked_by (codes "run" ∷ []) ≡ to_run standard_limits)
+    × (asked_by (codes "run" ∷ codes "--blocks" ∷ codes "007" ∷ codes "--rows" ∷ codes "8388608" ∷ []) ≡ to_run (record { rows = 8388608; blocks = 7 }))
+    × (asked_by (codes "run" ∷ codes "--rows" ∷ codes "5" ∷ codes "--rows" ∷ codes "6" ∷ []) ≡ nothing_known)
+    × (asked_by (codes "run" ∷ codes "--rows" ∷ codes "0" ∷ []) ≡ nothing_known)
+    × (asked_by (codes "run" ∷ codes "--rows" ∷ codes "8388609" ∷ []) ≡ nothing_known)
+    × (asked_by (codes "run" ∷ codes "--rows" ∷ codes "0000000005" ∷ []) ≡ nothing_known)
+    × (asked_by (codes "run" ∷ codes "--rows=5" ∷ []) ≡ nothing_known)
     × (asked_by (codes "demo" ∷ codes "1" ∷ codes "0" ∷ []) ≡ nothing_known)
 
--- from the bytes in to the bytes out: a count, a column that isn't there, a record at fault, and no words
+-- from the bytes in to the bytes out: a count, a column that isn't there, and a record at fault
 abbrev pub BytesTold : Type 0
 BytesTold =
-    (told_by (to_count (codes "a") (pos 2) (pos 5)) (codes "a\n1\n2\n5\n6\n") ≡ record { printed = codes "2\n"; refused = false })
-    × (told_by (to_count (codes "A-Z_b") (pos 1) (pos 1)) [] ≡ record { printed = codes "refused: unknown column a-z_b\n"; refused = true })
-    × (told_by (to_count (codes "a") (pos 2) (pos 5)) (codes "a\nx\n") ≡ record { printed = codes "refused: not built\n"; refused = true })
-    × (status_of (to_count (codes "a") (pos 2) (pos 5)) (codes "a\n1\n2\n5\n6\n") ≡ status.Done)
-    × (status_of (to_count (codes "a") (pos 2) (pos 5)) (codes "a\nx\n") ≡ status.Refused)
-    × (status_of nothing_known [] ≡ status.Usage)
+    (count_told (codes "a") (pos 2) (pos 5) (codes "a\n1\n2\n5\n6\n") ≡ record { printed = codes "2\n"; refused = false })
+    × (count_told (codes "A-Z_b") (pos 1) (pos 1) [] ≡ record { printed = codes "refused: unknown column a-z_b\n"; refused = true })
+    × (count_told (codes "a") (pos 2) (pos 5) (codes "a\nx\n") ≡ record { printed = codes "refused: not built\n"; refused = true })
+
+-- no files
+abbrev pub no_files : Files
+no_files name = None
+
+-- pieces without a token print nothing: an empty script, and semicolons, white space and a comment
+abbrev pub NothingSaid : Type 0
+NothingSaid =
+    Tells (to_run standard_limits) no_files [] (record { printed = []; refused = false })
+    × Tells (to_run standard_limits) no_files (codes ";; -- ';\n") (record { printed = []; refused = false })
+
+-- SELECT a FROM t
+abbrev pub select_a : Statement
+select_a = statement.Select (record {
+  items = record { what = what.Column (record { table = None; column = codes "a" }); name = None } ∷ [];
+  tables = codes "t" ∷ [];
+  condition = None;
+  groups = [];
+  order = [];
+  limit = None;
+})
+
+-- each statement is refused on its line, in their order; the last piece needs no semicolon
+abbrev pub ScriptAnswered : Type 0
+ScriptAnswered =
+    Tells (to_run standard_limits) no_files (codes "SELECT a FROM t; ; DROP TABLE t")
+    (record { printed = codes "refused: not built\nrefused: not built\n"; refused = true })
+
+-- 16 digits, 33 open parentheses, a statement, and an open text
+abbrev pub refused_script : Bytes
+refused_script = codes "SELECT 1000000000000000 (; ?" ++ replicate 33 40 ++ codes "; " ++ replicate 33 40 ++ codes "; DROP TABLE t; SELECT 'a;"
+
+-- the first place at fault goes before the depth, and the depth before the spelling
+abbrev pub TextsRefused : Type 0
+TextsRefused =
+    Tells (to_run standard_limits) no_files refused_script
+    (record { printed = codes "refused: number too long\nrefused: syntax\nrefused: too deep\nrefused: not built\nrefused: syntax\n"; refused = true })
 
 pub words_asked_lem : WordsAsked
-words_asked_lem = (refl, refl, refl, refl, refl, refl, refl, refl)
+words_asked_lem = (refl, refl, refl, refl, refl, refl, refl, refl, refl, refl, refl, refl, refl, refl)
 
 pub bytes_told_lem : BytesTold
 unfolding digits next_record records_from strip_bom
-bytes_told_lem = (refl, refl, refl, refl, refl, refl)
+bytes_told_lem = (refl, refl, refl)
+
+pub nothing_said_lem : NothingSaid
+nothing_said_lem = (
+  ([], passes _ _ _ _ refl (ends _), refl),
+  ([], passes _ _ _ _ refl (passes _ _ _ _ refl (passes _ _ _ _ refl (ends _))), refl),
+)
+
+pub script_answered_lem : ScriptAnswered
+unfolding step
+script_answered_lem = (
+  _,
+  steps _ _ (Ok select_a) _ _ refl (record { formed = refl; spelled = refl })
+      (passes _ _ _ _ refl
+      (steps _ _ (Ok (statement.Drop (codes "t"))) _ _ refl (record { formed = refl; spelled = refl }) (ends _))),
+  refl,
+)
+
+pub texts_refused_lem : TextsRefused
+unfolding step
+texts_refused_lem = (
+  _,
+  steps _ _ (Err refusal.NumberTooLong) _ _ refl refl
+      (steps _ _ (Err refusal.Syntax) _ _ refl refl
+      (steps _ _ (Err refusal.TooDeep) _ _ refl refl
+      (steps _ _ (Ok (statement.Drop (codes "t"))) _ _ refl (record { formed = refl; spelled = refl })
+      (steps _ _ (Err refusal.Syntax) _ _ refl refl (ends _))))),
+  refl,
+)

@@ -1,5 +1,9 @@
 pub mod Ends
 pub mod Examples
+pub mod Options
+pub mod Places
 pub mod Program
+pub mod Running
+pub mod Script
 pub mod Statuses
 pub mod Words

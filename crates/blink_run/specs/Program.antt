@@ -1,17 +1,29 @@
 -- What the program prints for the words of its command line and its input. Source: this project's own.
-use Rattle.std.specs.Prelude.{ℕ, ℤ, Bool, true, false, List, [], ◌∷◌, codes, Option, Some, None, Result, Ok, Err, if◌then◌else◌}
+use Rattle.std.specs.Prelude.{◌≡◌, ℕ, ℤ, Bool, true, false, List, [], ◌∷◌, codes, Option, Some, None, Result, Ok, Err, if◌then◌else◌}
+use Rattle.std.specs.List.{concat}
 use Rattle.std.specs.Str.{bytes_eq, str_to_ascii_lowercase}
+use Rattle.blink_base.specs.declared.limits.Limits.{Limits}
 use Rattle.blink_base.specs.declared.refusal.Refusal.TheVariants as refusal
 use Rattle.blink_base.specs.Read.{whole_number}
 use Rattle.report_text.specs.Texts.{Bytes, refusal_bytes, number_bytes, usage_bytes}
 use Rattle.blink_loader.specs.Range.{RangeRefusal, unknown_column, bad_record, range_of}
+use Rattle.star_engine.specs.Catalog.{Files}
+use Rattle.star_engine.specs.Step.{Outcome}
+use Rattle.blink_run.specs.Options.{limits_of}
+use Rattle.blink_run.specs.Script.{ScriptRuns, outputs_of, is_any_refused}
 use Rattle.blink_run.specs.declared.status.Status.{Status}
 use Rattle.blink_run.specs.declared.status.Status.TheVariants as status
 
--- what the words ask for: the count of a column between two whole numbers, or nothing that is known
+-- what the words ask for: a script under limits, the count of a column between two whole numbers, or nothing that is known
 pub data Asked : Type 0 where
+  to_run : Limits → Asked
   to_count : Bytes → ℤ → ℤ → Asked
   nothing_known : Asked
+
+-- a script under the limits, where the options say some
+abbrev pub run_asked : Option Limits → Asked
+run_asked (Some limits) = to_run limits
+run_asked None = nothing_known
 
 -- a count between two whole numbers, where both are
 abbrev pub count_asked : Bytes → Option ℤ → Option ℤ → Asked
@@ -30,12 +42,19 @@ count_form (column ∷ low ∷ high ∷ more ∷ words) = nothing_known
 -- what the words of the command line ask for
 abbrev pub asked_by : List Bytes → Asked
 asked_by [] = nothing_known
-asked_by (word ∷ words) = if bytes_eq word (codes "range") then count_form words else nothing_known
+asked_by (word ∷ words) =
+    if bytes_eq word (codes "run") then run_asked (limits_of words)
+    else if bytes_eq word (codes "range") then count_form words
+    else nothing_known
 
 -- what a run tells: what it prints, and whether it refuses anything
 pub record Told : Type 0 where
   pub printed : Bytes
   pub refused : Bool
+
+-- what a script tells: the outputs of its statements, one behind the other
+abbrev pub told_script : List Outcome → Told
+told_script outcomes = record { printed = concat (outputs_of outcomes); refused = is_any_refused outcomes }
 
 -- what a count tells: its line, or its refusal; the column's name is printed with small letters, and a record at fault is not told apart as yet
 abbrev pub told_count : Bytes → Result ℕ RangeRefusal → Told
@@ -43,12 +62,18 @@ told_count column (Ok count) = record { printed = number_bytes count; refused = 
 told_count column (Err unknown_column) = record { printed = refusal_bytes (refusal.UnknownColumn (str_to_ascii_lowercase column)); refused = true }
 told_count column (Err (bad_record why)) = record { printed = refusal_bytes refusal.NotBuilt; refused = true }
 
--- what the program tells for what is asked, over an input
-abbrev pub told_by : Asked → Bytes → Told
-told_by (to_count column low high) input = told_count column (range_of input column low high)
-told_by nothing_known input = record { printed = usage_bytes; refused = false }
+-- what the count of a column between two whole numbers tells of an input
+abbrev pub count_told : Bytes → ℤ → ℤ → Bytes → Told
+count_told column low high input = told_count column (range_of input column low high)
+
+-- what the program tells for what is asked, over an input and files
+abbrev pub Tells : Asked → Files → Bytes → Told → Type 0
+Tells (to_run limits) files input told = (outcomes : List Outcome) × ScriptRuns limits files input outcomes × (told ≡ told_script outcomes)
+Tells (to_count column low high) files input told = told ≡ count_told column low high input
+Tells nothing_known files input told = told ≡ record { printed = usage_bytes; refused = false }
 
 -- the status of a run that came to its end
-abbrev pub status_of : Asked → Bytes → Status
-status_of (to_count column low high) input = if (told_by (to_count column low high) input).refused then status.Refused else status.Done
-status_of nothing_known input = status.Usage
+abbrev pub status_of : Asked → Told → Status
+status_of (to_run limits) told = if told.refused then status.Refused else status.Done
+status_of (to_count column low high) told = if told.refused then status.Refused else status.Done
+status_of nothing_known told = status.Usage

@@ -1,26 +1,24 @@
-// What a count tells.
+// The count of a column between two bounds.
 ghost use Rattle.std.specs.Prelude.{◌≡◌, ◌≤◌, length, true, false, IfOk};
 ghost use Rattle.std.specs.Str.{str_to_ascii_lowercase};
 ghost use Rattle.blink_base.specs.declared.refusal.Refusal.TheVariants.{UnknownColumn};
 ghost use Rattle.blink_loader.specs.Range.{longest_input};
 ghost use Rattle.report_text.specs.Texts.{refusal_bytes};
-ghost use Rattle.blink_run.specs.Program.{told_by};
+ghost use Rattle.star_engine.specs.Catalog.{Files};
+ghost use Rattle.blink_run.specs.Program.{count_told};
+ghost use Rattle.blink_run.specs.Ends.{Gives, stream_view};
 ghost use Rattle.blink_run.specs.Words.{asked_of};
 ghost use Rattle.blink_run.specs.declared.words.Request.TheVariants.{Count};
 
+use crate::Status;
 use crate::lines::count_line;
+use crate::told::Told;
 use crate::words::Bounds;
 use blink_base::{List, Refusal, Word};
+use blink_edge::{Failed, Sink, write_all};
 use blink_loader::{RangeFault, range_count};
 use report_text::refusal_text;
 use std::alloc::{AllocError, Global};
-
-// A printed line, and whether it refuses.
-#[derive(Drop)]
-pub(crate) struct Told {
-    pub(crate) line: List<u8>,
-    pub(crate) refused: bool,
-}
 
 // The line for a column that the header lacks. Its name is printed with small letters.
 fn unknown_column_line(alloc: Global, column: &str) -> Result<List<u8>, AllocError>
@@ -33,14 +31,10 @@ fn unknown_column_line(alloc: Global, column: &str) -> Result<List<u8>, AllocErr
 
 // What the count of a column between two bounds tells of an input.
 #[tactic(auto, using(crate::proofs::Telling::told_count_by_answer))]
-pub(crate) fn tell_count(
-    alloc: Global,
-    bounds: Bounds<'_>,
-    input: &[u8],
-) -> Result<Told, AllocError>
+fn tell_count(alloc: Global, bounds: Bounds<'_>, input: &[u8]) -> Result<Told, AllocError>
     requires { length input.now ≤ longest_input }
-    ensures line { IfOk result (λ told. told.line ≡ (told_by (asked_of (Count bounds.entry)) input.now).printed) }
-    ensures refused { IfOk result (λ told. told.refused ≡ (told_by (asked_of (Count bounds.entry)) input.now).refused) }
+    ensures line { IfOk result (λ told. told.line ≡ (count_told bounds.entry.column.now bounds.entry.low bounds.entry.high input.now).printed) }
+    ensures refused { IfOk result (λ told. told.refused ≡ (count_told bounds.entry.column.now bounds.entry.low bounds.entry.high input.now).refused) }
 {
     match range_count(alloc, input, bounds.column, bounds.low, bounds.high) {
         Ok(count) => Ok(Told {
@@ -56,5 +50,30 @@ pub(crate) fn tell_count(
             refused: true,
         }),
         Err(RangeFault::Memory) => Err(AllocError),
+    }
+}
+
+// Answers a count.
+pub(crate) fn answer_count<W: Sink>(
+    alloc: Global,
+    bounds: Bounds<'_>,
+    input: &[u8],
+    output: &mut W,
+) -> Status
+    requires { length input.now ≤ longest_input }
+    ensures ends { (files : Files) → Gives (asked_of (Count bounds.entry)) files input.now
+        (stream_view W.given W.faults output.old) (stream_view W.given W.faults output.new) result }
+    ensures later { W.faults output.old ≤ W.faults output.new }
+    ensures sure { length (count_told bounds.entry.column.now bounds.entry.low bounds.entry.high input.now).printed ≤ W.sure_room output.old
+        → W.faults output.new ≡ W.faults output.old }
+{
+    let told = match tell_count(alloc, bounds, input) {
+        Ok(told) => told,
+        Err(AllocError) => return Status::Memory,
+    };
+    match write_all(output, told.line.as_slice()) {
+        Err(Failed) => Status::WriteFault,
+        Ok(()) if told.refused => Status::Refused,
+        Ok(()) => Status::Done,
     }
 }

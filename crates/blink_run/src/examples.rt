@@ -1,6 +1,6 @@
 //! Worked runs, as facts that compute.
 
-ghost use Rattle.blink_run.specs.Examples.{BytesTold, WordsAsked};
+ghost use Rattle.blink_run.specs.Examples.{BytesTold, NothingSaid, ScriptAnswered, TextsRefused, WordsAsked};
 
 /// The words of the command line.
 #[tactic(auto, using(crate::specs::Examples::words_asked_lem))]
@@ -12,4 +12,22 @@ pub fn words_asked()
 #[tactic(auto, using(crate::specs::Examples::bytes_told_lem))]
 pub fn bytes_told()
     ensures { BytesTold }
+{}
+
+/// Pieces without a token print nothing.
+#[tactic(auto, using(crate::specs::Examples::nothing_said_lem))]
+pub fn nothing_said()
+    ensures { NothingSaid }
+{}
+
+/// Statements, and what they print.
+#[tactic(auto, using(crate::specs::Examples::script_answered_lem))]
+pub fn script_answered()
+    ensures { ScriptAnswered }
+{}
+
+/// Pieces whose texts are refused, each on its line.
+#[tactic(auto, using(crate::specs::Examples::texts_refused_lem))]
+pub fn texts_refused()
+    ensures { TextsRefused }
 {}

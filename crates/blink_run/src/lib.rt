@@ -1,10 +1,16 @@
 //! The program, over a source, a sink and a store that are handed in.
 #![tactic(auto)]
 
+mod answers;
 mod count;
 pub mod examples;
+pub mod laws;
 mod lines;
+mod options;
+mod pieces;
+mod script;
 mod status;
+mod told;
 mod top_call;
 mod words;
 

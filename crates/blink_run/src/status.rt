@@ -12,11 +12,11 @@ pub enum Status {
     Usage,
     /// The source failed. Nothing was printed.
     ReadFault,
-    /// The sink failed. The printed bytes are a proper prefix of the defined ones.
+    /// The sink failed. The outputs of some first statements were printed, and a proper prefix of the next one's.
     WriteFault,
-    /// There was not enough memory. Nothing was printed.
+    /// There was not enough memory. Nothing was printed, or the outputs of some first statements of a script.
     Memory,
-    /// The store failed. No form of words asks it as yet, so this never comes.
+    /// The store failed. No statement asks it as yet, so this never comes.
     StoreFault,
     /// The input has more than 67,108,864 bytes. Nothing was printed.
     Long,

@@ -1,25 +1,62 @@
 // The program.
 ghost use Rattle.std.specs.Prelude.{◌≡◌, ◌≤◌, ℕ, List, Some, length, map, string_bytes};
-ghost use Rattle.blink_run.specs.Program.{asked_by, told_by, nothing_known};
-ghost use Rattle.blink_run.specs.Ends.{Ends, IsComplete, outside};
+ghost use Rattle.report_text.specs.Texts.{usage_bytes};
+ghost use Rattle.blink_loader.specs.Range.{longest_input};
+ghost use Rattle.star_engine.specs.Catalog.{Files};
+ghost use Rattle.blink_run.specs.Program.{asked_by, nothing_known, Told, Tells};
+ghost use Rattle.blink_run.specs.Ends.{Ends, IsComplete, Gives, AreFiles, outside, stream_view, store_view};
+ghost use Rattle.blink_run.specs.Words.{asked_of};
 
 use crate::Status;
-use crate::count::tell_count;
+use crate::count::answer_count;
 use crate::lines::USAGE;
+use crate::script::answer_script;
 use crate::words::Request;
 use blink_edge::{Failed, ReadError, Sink, Source, Store, Taken, read_all, write_all};
-use std::alloc::{AllocError, Global};
+use std::alloc::Global;
 
 /// The most bytes of an input.
 const LONGEST_INPUT: u64 = 67_108_864;
 
+// Prints how the program is used. It takes no memory.
+fn answer_usage<W: Sink>(output: &mut W) -> Status
+    ensures ends { (files : Files) (input : List ℕ) → Gives nothing_known files input (stream_view W.given W.faults output.old) (stream_view W.given W.faults output.new) result }
+    ensures later { W.faults output.old ≤ W.faults output.new }
+    ensures sure { length usage_bytes ≤ W.sure_room output.old → W.faults output.new ≡ W.faults output.old }
+{
+    match write_all(output, USAGE.as_bytes()) {
+        Ok(()) => Status::Usage,
+        Err(Failed) => Status::WriteFault,
+    }
+}
+
+// Answers what is asked, over an input.
+fn answer<W: Sink>(alloc: Global, request: Request<'_>, input: &[u8], output: &mut W) -> Status
+    requires { length input.now ≤ longest_input }
+    ensures ends { (files : Files) → Gives (asked_of request.entry) files input.now (stream_view W.given W.faults output.old) (stream_view W.given W.faults output.new) result }
+    ensures later { W.faults output.old ≤ W.faults output.new }
+    ensures sure { (files : Files) (told : Told) → Tells (asked_of request.entry) files input.now told
+        → length told.printed ≤ W.sure_room output.old → W.faults output.new ≡ W.faults output.old }
+{
+    match request {
+        Request::Run(limits) => answer_script(alloc, limits, input, output),
+        Request::Count(bounds) => answer_count(alloc, bounds, input, output),
+        Request::Unknown => answer_usage(output),
+    }
+}
+
 /// Runs the program that the words ask for, the program's own name left out.
 ///
-/// `range COLUMN LOW HIGH`, where LOW and HIGH are whole numbers, reads the source to its end as one CSV text and prints
-/// how many of its records have LOW <= COLUMN <= HIGH, or the line of a refusal. Any other words print the usage line;
-/// they read nothing and take no memory. How a run ends, what was read and what was printed is said for each status by
-/// `Ends`: a fault is answered only where that object's count of faults rose or stands at its last value, and want of
-/// memory may come at any point. The store is never asked. Source: this project's own.
+/// `run`, with `--rows N` and `--blocks N` behind it, each at most once and in any order, reads the source to its end as
+/// one script, and prints for each statement its output or the line of its refusal, one after the other. N is one to nine
+/// digits, from 1 to 8,388,608 rows or 2,097,152 blocks. Each output is given to the sink whole, once its statement has
+/// taken effect. `range COLUMN LOW HIGH`, where LOW and HIGH are whole numbers, reads the source to its end as one CSV
+/// text and prints how many of its records have LOW <= COLUMN <= HIGH, or the line of a refusal. Any other words print
+/// the usage line; they read nothing and take no memory.
+///
+/// How a run ends, what was read and what was printed is said for each status by `Ends`: a fault is answered only where
+/// that object's count of faults rose or stands at its last value, and want of memory may come at any point. The store
+/// is never asked as yet. Source: this project's own.
 pub fn run<R: Source, W: Sink, S: Store>(
     alloc: Global,
     words: &[String],
@@ -28,43 +65,33 @@ pub fn run<R: Source, W: Sink, S: Store>(
     store: &mut S,
 ) -> Status
     ensures ends { Ends (asked_by (map string_bytes words.now))
-        (outside R.left R.faults W.given W.faults input.old output.old)
-        (outside R.left R.faults W.given W.faults input.new output.new) result }
+        (outside (stream_view R.left R.faults input.old) (stream_view W.given W.faults output.old) (store_view S.files S.faults store.old))
+        (outside (stream_view R.left R.faults input.new) (stream_view W.given W.faults output.new) (store_view S.files S.faults store.new)) result }
     ensures complete { IsComplete (asked_by (map string_bytes words.now))
-        (outside R.left R.faults W.given W.faults input.old output.old)
-        (outside R.left R.faults W.given W.faults input.new output.new) result }
+        (outside (stream_view R.left R.faults input.old) (stream_view W.given W.faults output.old) (store_view S.files S.faults store.old))
+        (outside (stream_view R.left R.faults input.new) (stream_view W.given W.faults output.new) (store_view S.files S.faults store.new)) result }
 
     // The store is as it was, and for words in no stated form so is the source.
     ensures store_kept { store.new ≡ store.old }
     ensures source_kept { asked_by (map string_bytes words.now) ≡ nothing_known → input.new ≡ input.old }
 
-    // No count of faults falls, and none rises where no call fails and there is room for what is printed.
+    // No count of faults falls, and none rises where no call fails and there is room for all that is told.
     ensures source_later { R.faults input.old ≤ R.faults input.new }
     ensures sink_later { W.faults output.old ≤ W.faults output.new }
     ensures source_sure { R.never_fails input.old → R.faults input.new ≡ R.faults input.old }
-    ensures sink_sure { (bytes : List ℕ) → R.left input.old ≡ Some bytes
-        → length (told_by (asked_by (map string_bytes words.now)) bytes).printed ≤ W.sure_room output.old → W.faults output.new ≡ W.faults output.old }
+    ensures sink_sure { (bytes : List ℕ) (files : Files) (told : Told) → R.left input.old ≡ Some bytes → AreFiles (S.files store.old) files
+        → Tells (asked_by (map string_bytes words.now)) files bytes told
+        → length told.printed ≤ W.sure_room output.old → W.faults output.new ≡ W.faults output.old }
 {
-    let Request::Count(bounds) = Request::of_words(words) else {
-        return match write_all(output, USAGE.as_bytes()) {
-            Ok(()) => Status::Usage,
-            Err(Failed) => Status::WriteFault,
-        };
-    };
+    let request = Request::of_words(words);
+    if let Request::Unknown = request {
+        return answer(alloc, request, &[], output);
+    }
     let mut bytes = Vec::new(alloc);
     match read_all(input, LONGEST_INPUT, &mut bytes) {
-        Ok(Taken::Whole) => {}
-        Ok(Taken::Long) => return Status::Long,
-        Err(ReadError::Failed) => return Status::ReadFault,
-        Err(ReadError::Memory) => return Status::Memory,
-    }
-    let told = match tell_count(alloc, bounds, bytes.as_slice()) {
-        Ok(told) => told,
-        Err(AllocError) => return Status::Memory,
-    };
-    match write_all(output, told.line.as_slice()) {
-        Err(Failed) => Status::WriteFault,
-        Ok(()) if told.refused => Status::Refused,
-        Ok(()) => Status::Done,
+        Ok(Taken::Whole) => answer(alloc, request, bytes.as_slice(), output),
+        Ok(Taken::Long) => Status::Long,
+        Err(ReadError::Failed) => Status::ReadFault,
+        Err(ReadError::Memory) => Status::Memory,
     }
 }

@@ -1,9 +1,11 @@
 // The words of the command line.
 ghost use Rattle.std.specs.Prelude.{◌≡◌, map, string_bytes};
 ghost use Rattle.blink_base.specs.Read.{whole_number};
-ghost use Rattle.blink_run.specs.Program.{asked_by, count_asked};
+ghost use Rattle.blink_run.specs.Options.{limits_of};
+ghost use Rattle.blink_run.specs.Program.{asked_by, count_asked, count_form, run_asked};
 
-use blink_base::whole_number;
+use crate::options::limits_of;
+use blink_base::{Limits, whole_number};
 
 // A column, and the least and the greatest number that count.
 #[derive(Clone, Copy)]
@@ -16,6 +18,8 @@ pub(crate) struct Bounds<'a> {
 // What the words ask for.
 #[derive(Clone, Copy)]
 pub(crate) enum Request<'a> {
+    // The answers to a script.
+    Run(Limits),
     // How many values of a column lie between two bounds.
     Count(Bounds<'a>),
     // The words are in no stated form.
@@ -24,6 +28,16 @@ pub(crate) enum Request<'a> {
 
 impl<'a> Request<'a> {
     ghost use Rattle.blink_run.specs.Words.{asked_of};
+
+    // The answers to a script, where the options say limits.
+    fn run(options: &'a [String]) -> Request<'a>
+        ensures { asked_of result ≡ run_asked (limits_of (map string_bytes options.now)) }
+    {
+        match limits_of(options) {
+            Some(limits) => Request::Run(limits),
+            None => Request::Unknown,
+        }
+    }
 
     // The count between two bounds, where both are whole numbers.
     fn count(column: &'a str, low: &str, high: &str) -> Request<'a>
@@ -35,15 +49,29 @@ impl<'a> Request<'a> {
         }
     }
 
+    // The count that the words behind `range` ask for.
+    fn range(words: &'a [String]) -> Request<'a>
+        ensures { asked_of result ≡ count_form (map string_bytes words.now) }
+    {
+        match words {
+            [column, low, high] => Request::count(column.as_str(), low.as_str(), high.as_str()),
+            _ => Request::Unknown,
+        }
+    }
+
     // What the words ask for. It takes no memory.
     pub(crate) fn of_words(words: &'a [String]) -> Request<'a>
         ensures { asked_of result ≡ asked_by (map string_bytes words.now) }
     {
-        match words {
-            [verb, column, low, high] if verb.as_str() == "range" => {
-                Request::count(column.as_str(), low.as_str(), high.as_str())
-            }
-            _ => Request::Unknown,
+        let [verb, rest @ ..] = words else {
+            return Request::Unknown;
+        };
+        if verb.as_str() == "run" {
+            Request::run(rest)
+        } else if verb.as_str() == "range" {
+            Request::range(rest)
+        } else {
+            Request::Unknown
         }
     }
 }

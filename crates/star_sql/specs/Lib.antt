@@ -6,6 +6,7 @@ pub mod Made
 pub mod PredicateFronts
 pub mod QueryFronts
 pub mod Reading
+pub mod Saying
 pub mod Spelling
 pub mod StatementFronts
 pub mod WellFormed

@@ -1,37 +1,66 @@
-use Rattle.std.proofs.Common.{◌≡◌, map, string_bytes, [], refl, sym}
-use Rattle.blink_run.specs.Program.{asked_by, nothing_known}
+use Rattle.std.proofs.Common.{◌+◌, [], refl, inl}
+use Rattle.std.proofs.KnownBytes.{Keeps-refl}
+use Rattle.blink_loader.specs.Range.{longest_input}
+use Rattle.blink_run.specs.Ends.{NothingGiven, outside, stream_view, store_view}
+use Rattle.blink_run.specs.Program.{nothing_known}
 use Rattle.blink_run.specs.Words.{asked_of}
-use Rattle.blink_run.specs.declared.words.Request.TheVariants.{Count}
-use Rattle.blink_run.proofs.Ending.{nothing_read}
+use Rattle.blink_run.proofs.Ending.{files_told, are_told, nothing_read, read_whole, known_reads, ends_by, complete_by, input_is}
 use Rattle.blink_run.proofs.top_call.run.Goals as goal
 
-pub returns-in-Ok-clause-ends : goal.returns-in-Ok-clause-ends
-returns-in-Ok-clause-ends g c =
-    let asked : asked_by (map string_bytes c.args.words.now) ≡ nothing_known = sym c.in_default.ensures in
-    rw asked ([], nothing_read _, rw c.as_bytes.ensures.value at c.in-Ok.ensures.all, refl)
+pub returns-in-Unknown-clause-ends : goal.returns-in-Unknown-clause-ends
+returns-in-Unknown-clause-ends g c =
+    let files = files_told (g.S.Store.files c.args.store.now) in
+    let source = stream_view g.R.Source.left g.R.Source.faults c.args.input.now in
+    let store = store_view g.S.Store.files g.S.Store.faults c.args.store.now in
+    let old = outside source (stream_view g.W.Sink.given g.W.Sink.faults c.args.output.now) store in
+    let new = outside source (stream_view g.W.Sink.given g.W.Sink.faults c.answer.new.output) store in
+    let gives = rw c.in-Unknown.is at (c.answer.ensures.ends files) in
+    rw (← c.in-Unknown.ensures) (ends_by nothing_known old new [] files c.answer.result (nothing_read source) (are_told _) gives)
 
-pub returns-in-Err-clause-ends : goal.returns-in-Err-clause-ends
-returns-in-Err-clause-ends g c =
-    let asked : asked_by (map string_bytes c.args.words.now) ≡ nothing_known = sym c.in_default.ensures in
-    rw asked (c.in-Err.ensures.cause.failed, ([], nothing_read _, rw c.as_bytes.ensures.value at c.in-Err.ensures.part))
+pub returns-in-Unknown-clause-complete : goal.returns-in-Unknown-clause-complete
+returns-in-Unknown-clause-complete g c =
+    let files = files_told (g.S.Store.files c.args.store.now) in
+    let source = stream_view g.R.Source.left g.R.Source.faults c.args.input.now in
+    let store = store_view g.S.Store.files g.S.Store.faults c.args.store.now in
+    let old = outside source (stream_view g.W.Sink.given g.W.Sink.faults c.args.output.now) store in
+    let new = outside source (stream_view g.W.Sink.given g.W.Sink.faults c.answer.new.output) store in
+    let gives = rw c.in-Unknown.is at (c.answer.ensures.ends files) in
+    rw (← c.in-Unknown.ensures) (complete_by nothing_known old new files [] c.answer.result gives)
 
-pub returns-in-Err-write_all-clause-ends : goal.returns-in-Err-write_all-clause-ends
-returns-in-Err-write_all-clause-ends g c =
-    let asked : asked_by (map string_bytes c.args.words.now) ≡ asked_of (Count c.in-Count.bounds) = sym c.in-Count.ensures in
-    let read = rw (← c.as_slice.ensures.value) at (c.in-Ok-Whole.ensures.whole (rw c.in-Ok-Whole.field-0-is refl)) in
-    let part = rw (c.as_slice-2.ensures, c.in-Ok-tell_count.ensures.line) at c.in-Err-write_all.ensures.part in
-    rw asked (c.in-Err-write_all.ensures.cause.failed, (c.as_slice.result.now, read, part))
+pub returns-in-Ok-Whole-clause-ends : goal.returns-in-Ok-Whole-clause-ends
+returns-in-Ok-Whole-clause-ends g c =
+    let files = files_told (g.S.Store.files c.args.store.now) in
+    let asked = asked_of c.of_words-request.result in
+    let input = c.as_slice.result.now in
+    let store = store_view g.S.Store.files g.S.Store.faults c.args.store.now in
+    let old = outside (stream_view g.R.Source.left g.R.Source.faults c.args.input.now) (stream_view g.W.Sink.given g.W.Sink.faults c.args.output.now) store in
+    let new = outside (stream_view g.R.Source.left g.R.Source.faults c.read_all.new.source) (stream_view g.W.Sink.given g.W.Sink.faults c.answer-in-Ok-Whole.new.output) store in
+    let reads = known_reads c.of_words-request.result c.in_default.not-Unknown in
+    let whole = rw (← c.as_slice.ensures.value) at (c.in-Ok-Whole.ensures.whole (rw c.in-Ok-Whole.field-0-is refl)) in
+    rw (← c.of_words-request.ensures) (ends_by asked old new input files c.answer-in-Ok-Whole.result (read_whole asked old.source new.source input reads whole) (are_told _) (c.answer-in-Ok-Whole.ensures.ends files))
 
-pub returns-in-Ok-write_all-clause-ends : goal.returns-in-Ok-write_all-clause-ends
-returns-in-Ok-write_all-clause-ends g c =
-    let asked : asked_by (map string_bytes c.args.words.now) ≡ asked_of (Count c.in-Count.bounds) = sym c.in-Count.ensures in
-    let read = rw (← c.as_slice.ensures.value) at (c.in-Ok-Whole.ensures.whole (rw c.in-Ok-Whole.field-0-is refl)) in
-    let given = rw (c.as_slice-2.ensures, c.in-Ok-tell_count.ensures.line) at c.in-Ok-write_all.ensures.all in
-    rw asked (c.as_slice.result.now, read, given, rw (← c.in-Ok-tell_count.ensures.refused, c.if-told.true) refl)
+pub returns-in-Ok-Whole-clause-complete : goal.returns-in-Ok-Whole-clause-complete
+returns-in-Ok-Whole-clause-complete g c =
+    let files = files_told (g.S.Store.files c.args.store.now) in
+    let asked = asked_of c.of_words-request.result in
+    let store = store_view g.S.Store.files g.S.Store.faults c.args.store.now in
+    let old = outside (stream_view g.R.Source.left g.R.Source.faults c.args.input.now) (stream_view g.W.Sink.given g.W.Sink.faults c.args.output.now) store in
+    let new = outside (stream_view g.R.Source.left g.R.Source.faults c.read_all.new.source) (stream_view g.W.Sink.given g.W.Sink.faults c.answer-in-Ok-Whole.new.output) store in
+    rw (← c.of_words-request.ensures) (complete_by asked old new files c.as_slice.result.now c.answer-in-Ok-Whole.result (c.answer-in-Ok-Whole.ensures.ends files))
+
+pub returns-in-Ok-Whole-clause-sink_sure : goal.returns-in-Ok-Whole-clause-sink_sure
+returns-in-Ok-Whole-clause-sink_sure g c bytes files told left are tells enough =
+    let whole = rw (← c.as_slice.ensures.value) at (c.in-Ok-Whole.ensures.whole (rw c.in-Ok-Whole.field-0-is refl)) in
+    let same = input_is (g.R.Source.left c.args.input.now) (g.R.Source.left c.read_all.new.source) bytes c.as_slice.result.now left whole.0 whole.1 in
+    c.answer-in-Ok-Whole.ensures.sure files told (rw (← c.of_words-request.ensures, same) at tells) enough
 
 pub returns-clause-ends : goal.returns-clause-ends
 returns-clause-ends g c =
-    let asked : asked_by (map string_bytes c.args.words.now) ≡ asked_of (Count c.in-Count.bounds) = sym c.in-Count.ensures in
-    let read = rw (← c.as_slice.ensures.value) at (c.in-Ok-Whole.ensures.whole (rw c.in-Ok-Whole.field-0-is refl)) in
-    let given = rw (c.as_slice-2.ensures, c.in-Ok-tell_count.ensures.line) at c.in-Ok-2.ensures.all in
-    rw asked (c.as_slice.result.now, read, given, rw (← c.in-Ok-tell_count.ensures.refused, c.if-told.false) refl)
+    let asked = asked_of c.of_words-request.result in
+    let store = store_view g.S.Store.files g.S.Store.faults c.args.store.now in
+    let sink = stream_view g.W.Sink.given g.W.Sink.faults c.args.output.now in
+    let old = outside (stream_view g.R.Source.left g.R.Source.faults c.args.input.now) sink store in
+    let new = outside (stream_view g.R.Source.left g.R.Source.faults c.read_all.new.source) sink store in
+    let part = c.in-Err-Memory.ensures.part in
+    let nothing : NothingGiven asked (longest_input + 1) old new = (known_reads c.of_words-request.result c.in_default.not-Unknown, Keeps-refl _, (part.0, part.1, part.2)) in
+    inl (rw (← c.of_words-request.ensures) nothing)

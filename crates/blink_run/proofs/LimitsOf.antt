@@ -1,0 +1,14 @@
+-- The limits that words say.
+use Rattle.std.proofs.Common.{◌≡◌, ◌≢◌, List, [], ◌∷◌, length, map, refl}
+use Rattle.std.specs.Prelude.{None}
+use Rattle.report_text.specs.Texts.{Bytes}
+use Rattle.blink_run.specs.Options.{limits_of}
+
+-- words that are no pairs say none
+pub limits_of-none : {X : Type 0} (f : X → Bytes) (words : List X) → length words ≢ 0 → length words ≢ 2 → length words ≢ 4 → limits_of (map f words) ≡ None
+limits_of-none f [] no0 no2 no4 = absurd (no0 refl)
+limits_of-none f (a ∷ []) no0 no2 no4 = refl
+limits_of-none f (a ∷ n ∷ []) no0 no2 no4 = absurd (no2 refl)
+limits_of-none f (a ∷ n ∷ b ∷ []) no0 no2 no4 = refl
+limits_of-none f (a ∷ n ∷ b ∷ m ∷ []) no0 no2 no4 = absurd (no4 refl)
+limits_of-none f (a ∷ n ∷ b ∷ m ∷ c ∷ rest) no0 no2 no4 = refl
