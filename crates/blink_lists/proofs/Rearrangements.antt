@@ -126,4 +126,4 @@ choices-rearranged no_lists = itself ([] ∷ [])
 choices-rearranged (one_more {xs} {ys} {xss} {yss} r rest) =
     let more = choices-rearranged rest in
     followed (each_part (λ x. map (λ chosen. x ∷ chosen) (choices xss)) (λ x. map (λ chosen. x ∷ chosen) (choices yss)) (λ x. map-rearranged (λ chosen. x ∷ chosen) more) xs)
-        (parts_moved (λ x. map (λ chosen. x ∷ chosen) (choices yss)) r)
+    (parts_moved (λ x. map (λ chosen. x ∷ chosen) (choices yss)) r)
