@@ -18,6 +18,7 @@ mod op;
 mod refusal;
 mod roomy;
 mod schema;
+mod test;
 mod value;
 mod word;
 
@@ -31,6 +32,7 @@ pub use op::Op;
 pub use refusal::Refusal;
 pub use roomy::Roomy;
 pub use schema::{Column, Schema};
+pub use test::Test;
 pub use value::{Kind, Row, Value, ValueFault};
 pub use word::Word;
 

@@ -2,6 +2,7 @@ pub mod ConditionFronts
 pub mod Conditions
 pub mod Examples
 pub mod Fronts
+pub mod Literals
 pub mod Made
 pub mod PredicateFronts
 pub mod QueryFronts
