@@ -7,7 +7,10 @@ use Rattle.blink_base.specs.declared.answer.Field.TheVariants as field
 use Rattle.blink_base.specs.Compared.{Row}
 use Rattle.blink_base.specs.Lines.{printed_lines}
 use Rattle.star_sql.specs.declared.ast.ColumnName.{ColumnName}
+use Rattle.blink_base.specs.declared.refusal.Refusal.TheVariants.{UnknownColumn, AmbiguousColumn}
 use Rattle.star_sql.specs.declared.ast.Cond.{Cond}
+use Rattle.star_sql.specs.declared.ast.Item.{Item}
+use Rattle.star_sql.specs.declared.ast.Select.{Select}
 use Rattle.star_sql.specs.declared.ast.Literal.TheVariants as literal
 use Rattle.star_sql.specs.declared.ast.What.TheVariants as what
 use Rattle.star_sql.specs.declared.ast.Expr.TheVariants as expr
@@ -16,9 +19,10 @@ use Rattle.star_sql.specs.declared.ast.Primary.{Test}
 use Rattle.star_sql.specs.declared.ast.TestWords.TheVariants.{Compare, Columns, Between, Among, Like}
 use Rattle.star_sql.specs.Made.{bare, dotted, item, number, any_of, all_of, group_of}
 use Rattle.star_meaning.specs.Names.{Scope, places, place_of}
+use Rattle.star_meaning.specs.NameRefusals.{name_refusal}
 use Rattle.star_meaning.specs.Truth.{is_true}
 use Rattle.star_meaning.specs.Answer.{answer, lines, item_meant, printed_name}
-use Rattle.star_meaning.specs.Queries.{int_table, int_rows, int_lines, plain, called, query_of_t}
+use Rattle.star_meaning.specs.Queries.{int_table, int_rows, int_lines, plain, called, query_of, query_of_t}
 
 -- the columns a and b
 abbrev a : ColumnName
@@ -122,6 +126,19 @@ NamesMeant =
     × (place_of two_tables (dotted (codes "u") (codes "a")) ≡ Some (record { table = 1; column = 0 }))
     × (item_meant two_tables (plain (codes "b") ∷ called what.Count (codes "a") ∷ []) a ≡ Some 1)
     × (item_meant two_tables (plain (codes "b") ∷ []) (dotted (codes "u") (codes "b")) ≡ Some 0)
+
+-- a query of the tables t and u: its items and one rising key
+abbrev by_key : List Item → ColumnName → Select
+by_key items key = query_of (codes "t" ∷ codes "u" ∷ []) items [] (record { column = key; way = Plain } ∷ []) None
+
+-- unknown names are told first, also where an ambiguous one stands before them; a key is an item
+abbrev pub NamesRefused : Type 0
+NamesRefused =
+    (name_refusal two_tables (by_key (plain (codes "a") ∷ plain (codes "z") ∷ []) b) ≡ Some (UnknownColumn (codes "z")))
+    × (name_refusal two_tables (by_key (plain (codes "b") ∷ plain (codes "a") ∷ []) b) ≡ Some (AmbiguousColumn (codes "a")))
+    × (name_refusal two_tables (by_key (plain (codes "b") ∷ []) a) ≡ Some (AmbiguousColumn (codes "a")))
+    × (name_refusal two_tables (by_key (plain (codes "a") ∷ []) (dotted (codes "t") (codes "a"))) ≡ Some (UnknownColumn (codes "t.a")))
+    × (name_refusal two_tables (by_key (called what.Count (codes "a") ∷ []) a) ≡ None)
 
 -- an item's printed name
 abbrev pub NamesPrinted : Type 0
