@@ -1,10 +1,9 @@
 -- Worked queries of small tables, as facts that compute. Source: ISO/IEC 9075; the order of ties, the truncated average, LIMIT and the printed names are this project's own.
-use Rattle.std.specs.Prelude.{◌≡◌, ℕ, negsuc, pos, Bool, true, false, List, [], ◌∷◌, codes, Option, Some, None, refl}
+use Rattle.std.specs.Prelude.{◌≡◌, negsuc, pos, Bool, true, false, List, [], ◌∷◌, codes, Some, None, refl}
 use Rattle.blink_base.specs.declared.op.Op.TheVariants as op
 use Rattle.blink_base.specs.declared.value.Kind.TheVariants as kind
 use Rattle.blink_base.specs.declared.value.Value.TheVariants as value
 use Rattle.blink_base.specs.declared.answer.Field.TheVariants as field
-use Rattle.blink_base.specs.Compared.{Row}
 use Rattle.blink_base.specs.Lines.{printed_lines}
 use Rattle.star_sql.specs.declared.ast.ColumnName.{ColumnName}
 use Rattle.blink_base.specs.declared.refusal.Refusal.TheVariants.{UnknownColumn, AmbiguousColumn}
@@ -16,8 +15,8 @@ use Rattle.star_sql.specs.declared.ast.What.TheVariants as what
 use Rattle.star_sql.specs.declared.ast.Expr.TheVariants as expr
 use Rattle.star_sql.specs.declared.ast.Way.TheVariants.{Plain, Desc}
 use Rattle.star_sql.specs.declared.ast.Primary.{Test}
-use Rattle.star_sql.specs.declared.ast.TestWords.TheVariants.{Compare, Columns, Between, Among, Like}
-use Rattle.star_sql.specs.Made.{bare, dotted, item, number, any_of, all_of, group_of}
+use Rattle.star_sql.specs.declared.ast.TestWords.TheVariants.{Compare, Between, Among, Like}
+use Rattle.star_sql.specs.Made.{bare, dotted, item, any_of, all_of, group_of}
 use Rattle.star_meaning.specs.Names.{Scope, places, place_of}
 use Rattle.star_meaning.specs.NameRefusals.{name_refusal}
 use Rattle.star_meaning.specs.Truth.{is_true}
@@ -115,7 +114,7 @@ pub rows_grouped_lem : RowsGrouped
 unfolding lines
 rows_grouped_lem = refl
 
--- a name that fits two columns means none, and behind its table it means one; a key means an AS name first
+-- a name that fits two columns means none, and behind its table it means one, where that stands once; a key means an AS name first
 abbrev pub two_tables : Scope
 two_tables = int_table (codes "t") (codes "a" ∷ []) None ∷ int_table (codes "u") (codes "a" ∷ codes "b" ∷ []) None ∷ []
 
@@ -124,6 +123,7 @@ NamesMeant =
     (places two_tables a ≡ record { table = 0; column = 0 } ∷ record { table = 1; column = 0 } ∷ [])
     × (place_of two_tables a ≡ None)
     × (place_of two_tables (dotted (codes "u") (codes "a")) ≡ Some (record { table = 1; column = 0 }))
+    × (place_of (int_table (codes "t") (codes "a" ∷ []) None ∷ int_table (codes "t") (codes "a" ∷ []) None ∷ []) (dotted (codes "t") (codes "a")) ≡ None)
     × (item_meant two_tables (plain (codes "b") ∷ called what.Count (codes "a") ∷ []) a ≡ Some 1)
     × (item_meant two_tables (plain (codes "b") ∷ []) (dotted (codes "u") (codes "b")) ≡ Some 0)
 
