@@ -1,5 +1,5 @@
 // How the fields of one row lie in a lane of a word.
-ghost use Rattle.std.specs.Prelude.{◌≡◌, ◌*◌, ◌≤◌, length, IsTrue, IfSome, IsSome, ◌↔◌};
+ghost use Rattle.std.specs.Prelude.{◌≡◌, [], ◌∷◌, ◌++◌, ◌*◌, ◌≤◌, length, IsTrue, IfSome, IsSome, ◌↔◌};
 ghost use Rattle.masked_compare.specs.Fields.{is_shape, fields_bits, lane_holding, lane_bits, lane_count};
 
 use std::marker::Model;
@@ -51,6 +51,20 @@ impl Shape {
             count: widths.len(),
             bits: lane_of(taken),
         })
+    }
+
+    /// The shape with one more field behind the others. None exactly where these are no shape's widths. It takes no
+    /// memory.
+    pub fn with(self, width: u8) -> Option<Shape>
+        ensures shape { IfSome result (λ shape. shape ≡ self ++ width ∷ []) }
+        ensures some { IsSome result ↔ IsTrue (is_shape (self ++ width ∷ [])) }
+    {
+        let mut widths = self.widths;
+        if self.count >= widths.len() {
+            return None;
+        }
+        widths[self.count] = width;
+        Shape::new(&widths[..self.count + 1])
     }
 
     /// The bits of a lane: 8, 16 or 32. It takes no memory.

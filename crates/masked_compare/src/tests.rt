@@ -30,5 +30,7 @@ fn lanes_hold_their_fields(rt: HostRuntime) -> Result<(), Fail> {
     }
     assert!(rt; Shape::new(&[1; 16]).is_some());
     assert!(rt; Shape::new(&[1; 17]).is_none());
+    let three = Shape::new(&[3]).and_then(|shape| shape.with(4));
+    assert_eq!(rt; three.map(|shape| shape.bits()), Some(16));
     Ok(())
 }

@@ -1,0 +1,64 @@
+// The columns that share a word.
+ghost use Rattle.std.specs.Prelude.{◌≡◌, [], ◌∷◌, ◌++◌, true, length, IfOk, OnOk, IfSome, IsSome, ◌↔◌, IsTrue};
+ghost use Rattle.bank_pack.specs.Banks.{widths_of, columns_of, has_room};
+ghost use Rattle.masked_compare.specs.Fields.{is_width, is_shape};
+
+use masked_compare::Shape;
+use std::alloc::{AllocError, Global};
+use std::marker::Model;
+
+// Columns, and the shape of their fields.
+#[derive(Drop)]
+pub(crate) struct PlannedBank {
+    columns: Vec<u32>,
+    shape: Shape,
+}
+
+impl Model for PlannedBank {
+    ghost use Rattle.std.specs.Prelude.{◌≡◌, length};
+    ghost use Rattle.bank_pack.specs.Banks.{BankColumns};
+    ghost use Rattle.bank_pack.specs.Plans.{bank_made};
+
+    ghost Value = { BankColumns };
+
+    ghost view = { λ b. bank_made b.columns.items b.shape };
+
+    ghost invariant = { λ b. length b.columns.items ≡ length b.shape };
+}
+
+impl PlannedBank {
+    // Of one column.
+    pub(crate) fn new(alloc: Global, column: u32, width: u8) -> Result<PlannedBank, AllocError>
+        requires { is_width width ≡ true }
+        ensures { IfOk result (λ bank. bank ≡ record { column = column; width = width } ∷ []) }
+    {
+        let mut columns = Vec::with_capacity(alloc, 1)?;
+        columns.push(column)?;
+        match Shape::new(&[width]) {
+            Some(shape) => Ok(PlannedBank { columns, shape }),
+            None => unreachable!(),
+        }
+    }
+
+    // Whether there is room for a field of this width.
+    pub(crate) fn has_room(&self, width: u8) -> bool
+        requires { is_width width ≡ true }
+        ensures { result ≡ has_room self.now (record { column = 0; width = width }) }
+    {
+        self.shape.with(width).is_some()
+    }
+
+    // The shape of the fields.
+    pub(crate) fn shape(&self) -> Shape
+        ensures { result ≡ widths_of self.now }
+    {
+        self.shape
+    }
+
+    // The columns, in the order of the fields.
+    pub(crate) fn columns(&self) -> &[u32]
+        ensures { result.now ≡ columns_of self.now }
+    {
+        self.columns.as_slice()
+    }
+}
