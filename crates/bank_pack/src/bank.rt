@@ -15,7 +15,8 @@ pub(crate) struct PlannedBank {
 }
 
 impl Model for PlannedBank {
-    ghost use Rattle.std.specs.Prelude.{◌≡◌, length};
+    ghost use Rattle.std.specs.Prelude.{◌≡◌, length, IsTrue};
+    ghost use Rattle.masked_compare.specs.Fields.{is_shape};
     ghost use Rattle.bank_pack.specs.Banks.{BankColumns};
     ghost use Rattle.bank_pack.specs.Plans.{bank_made};
 
@@ -23,7 +24,7 @@ impl Model for PlannedBank {
 
     ghost view = { λ b. bank_made b.columns.items b.shape };
 
-    ghost invariant = { λ b. length b.columns.items ≡ length b.shape };
+    ghost invariant = { λ b. (length b.columns.items ≡ length b.shape) × IsTrue (is_shape b.shape) };
 }
 
 impl PlannedBank {
@@ -48,7 +49,22 @@ impl PlannedBank {
         self.shape.with(width).is_some()
     }
 
+    // Adds a field; where memory is wanting the bank may be given up.
+    pub(crate) fn add(&mut self, column: u32, width: u8) -> Result<(), AllocError>
+        requires width { is_width width ≡ true }
+        requires room { has_room self.old (record { column = column; width = width }) ≡ true }
+        ensures { OnOk result (self.new ≡ self.old ++ record { column = column; width = width } ∷ []) }
+    {
+        let Some(shape) = self.shape.with(width) else {
+            unreachable!()
+        };
+        self.columns.push(column)?;
+        self.shape = shape;
+        Ok(())
+    }
+
     // The shape of the fields.
+    #[tactic(auto, using(crate::proofs::Made::widths_made))]
     pub(crate) fn shape(&self) -> Shape
         ensures { result ≡ widths_of self.now }
     {
@@ -56,6 +72,7 @@ impl PlannedBank {
     }
 
     // The columns, in the order of the fields.
+    #[tactic(auto, using(crate::proofs::Made::columns_made))]
     pub(crate) fn columns(&self) -> &[u32]
         ensures { result.now ≡ columns_of self.now }
     {

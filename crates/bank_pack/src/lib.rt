@@ -3,9 +3,8 @@
 
 mod bank;
 pub mod examples;
+mod plan;
 
-
-
-
+pub use plan::BankPlan;
 #[cfg(test)]
 mod tests;

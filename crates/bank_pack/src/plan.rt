@@ -1,0 +1,91 @@
+// The banks of a cell.
+ghost use Rattle.std.specs.Prelude.{◌≡◌, ◌<◌, ◌≤◌, ◌+◌, true, length, slice_get, Some, IfOk, OnOk};
+ghost use Rattle.std.specs.List.{list_all, position_or_len};
+ghost use Rattle.masked_compare.specs.Fields.{is_width};
+ghost use Rattle.bank_pack.specs.Banks.{BankColumns, banks_of, put_in_first, has_room, widths_of, columns_of};
+ghost use Rattle.bank_pack.specs.Plans.{column_in, column_count};
+
+use crate::bank::PlannedBank;
+use masked_compare::Shape;
+use std::alloc::{AllocError, Global};
+use std::marker::Model;
+
+// Where a column stands: its bank, and its field there.
+#[derive(Clone, Copy)]
+struct ColumnField {
+    bank: usize,
+    field: usize,
+}
+
+/// Which columns of a cell share a word, seen as its banks: each the columns whose fields lie side by side, the first
+/// field lowest. Source: after Johnson et al., VLDB 2008; the rule of the banks is this project's own.
+#[derive(Drop)]
+pub struct BankPlan {
+    banks: Vec<PlannedBank>,
+    fields: Vec<ColumnField>,
+}
+
+impl Model for BankPlan {
+    ghost use Rattle.std.specs.Prelude.{List};
+    ghost use Rattle.bank_pack.specs.Banks.{BankColumns};
+
+    ghost Value = { List BankColumns };
+
+    ghost view = { λ plan. plan.banks.items };
+}
+
+impl BankPlan {
+    /// The banks of a cell whose columns have codes of these widths: each column in order goes into the first bank that has
+    /// room for its field within 32 bits, else into a new one.
+    ///
+    /// There are 1 to 32 widths of 1 to 23 bits.
+    pub fn of(alloc: Global, widths: &[u8]) -> Result<BankPlan, AllocError>
+        requires few { length widths.now ≤ 32 }
+        requires widths { list_all is_width widths.now ≡ true }
+        ensures { IfOk result (λ plan. plan ≡ banks_of widths.now) }
+    {
+        let mut plan = BankPlan {
+            banks: Vec::new(alloc),
+            fields: Vec::with_capacity(alloc, widths.len())?,
+        };
+        for at in 0..widths.len() {
+            plan.put(at as u32, widths[at])?;
+        }
+        Ok(plan)
+    }
+
+    // Puts a column into the first bank with room, else into a new one.
+    fn put(&mut self, column: u32, width: u8) -> Result<(), AllocError>
+        requires { is_width width ≡ true }
+        ensures { OnOk result (self.new ≡ put_in_first self.old (record { column = column; width = width })) }
+    {
+        let at = self.first_with_room(width);
+        if at < self.banks.len() {
+            self.banks[at].add(column, width)?;
+        } else {
+            let alloc = *self.banks.allocator();
+            self.banks.push(PlannedBank::new(alloc, column, width)?)?;
+        }
+        Ok(())
+    }
+
+    // The place of the first bank with room for a field, else the number of banks.
+    fn first_with_room(&self, width: u8) -> usize
+        requires { is_width width ≡ true }
+        ensures { result ≡ position_or_len (λ bank. has_room bank (record { column = 0; width = width })) self.now }
+    {
+        for at in 0..self.banks.len() {
+            if self.banks[at].has_room(width) {
+                return at;
+            }
+        }
+        self.banks.len()
+    }
+
+    /// How many banks there are. It takes no memory.
+    pub fn banks(&self) -> usize
+        ensures { result ≡ length self.now }
+    {
+        self.banks.len()
+    }
+}
