@@ -1,5 +1,5 @@
 // The banks of a cell.
-ghost use Rattle.std.specs.Prelude.{◌≡◌, ◌<◌, ◌≤◌, ◌+◌, true, length, slice_get, Some, IfOk, OnOk};
+ghost use Rattle.std.specs.Prelude.{◌≡◌, ◌<◌, ◌≤◌, ◌+◌, true, length, slice_get, Some, IfOk, OnOk, [], slice_index_or as get_or};
 ghost use Rattle.std.specs.List.{list_all, position_or_len};
 ghost use Rattle.masked_compare.specs.Fields.{is_width};
 ghost use Rattle.bank_pack.specs.Banks.{BankColumns, banks_of, put_in_first, has_room, widths_of, columns_of};
@@ -59,7 +59,7 @@ impl BankPlan {
         requires { is_width width ≡ true }
         ensures { OnOk result (self.new ≡ put_in_first self.old (record { column = column; width = width })) }
     {
-        let at = self.first_with_room(width);
+        let at = first_with_room(self.banks.as_slice(), width);
         if at < self.banks.len() {
             self.banks[at].add(column, width)?;
         } else {
@@ -69,23 +69,23 @@ impl BankPlan {
         Ok(())
     }
 
-    // The place of the first bank with room for a field, else the number of banks.
-    fn first_with_room(&self, width: u8) -> usize
-        requires { is_width width ≡ true }
-        ensures { result ≡ position_or_len (λ bank. has_room bank (record { column = 0; width = width })) self.now }
-    {
-        for at in 0..self.banks.len() {
-            if self.banks[at].has_room(width) {
-                return at;
-            }
-        }
-        self.banks.len()
-    }
-
     /// How many banks there are. It takes no memory.
     pub fn banks(&self) -> usize
         ensures { result ≡ length self.now }
     {
         self.banks.len()
     }
+}
+
+// The place of the first bank with room for a field, else the number of banks.
+fn first_with_room(banks: &[PlannedBank], width: u8) -> usize
+    requires { is_width width ≡ true }
+    ensures place { result ≡ position_or_len (λ bank. has_room bank (record { column = 0; width = width })) banks.now }
+    ensures there { result < length banks.now → has_room (get_or banks.now result []) (record { column = 0; width = width }) ≡ true }
+{
+    let mut at = 0;
+    while at < banks.len() && !banks[at].has_room(width) {
+        at += 1;
+    }
+    at
 }
