@@ -81,6 +81,7 @@ impl BankPlan {
 fn first_with_room(banks: &[PlannedBank], width: u8) -> usize
     requires { is_width width ≡ true }
     ensures place { result ≡ position_or_len (λ bank. has_room bank (record { column = 0; width = width })) banks.now }
+    ensures within { result ≤ length banks.now }
     ensures there { result < length banks.now → has_room (get_or banks.now result []) (record { column = 0; width = width }) ≡ true }
 {
     let mut at = 0;
