@@ -1,11 +1,11 @@
 -- Columns and widths side by side, and room for one more.
-use Rattle.std.proofs.Common.{◌≡◌, ◌≤◌, ℕ, suc, ◌+◌, Bool, true, false, ◌&&◌, nat_le, nat_lt, List, [], ◌∷◌, ◌++◌, map, length, sum_by, refl, sym, ap, ◌∙◌, true≢false, IsTrue, arith}
+use Rattle.std.proofs.Common.{◌≡◌, ℕ, ◌+◌, Bool, true, false, ◌&&◌, nat_le, nat_lt, List, [], ◌∷◌, ◌++◌, length, refl, sym, ap, ◌∙◌, IsTrue, arith}
 use Rattle.std.specs.List.{list_all}
 use Rattle.std.proofs.lemmas.Bool.{and_parts, le-leb}
 use Rattle.std.proofs.lemmas.List.{length-append}
 use Rattle.std.proofs.lemmas.List.Sums.{sum_by-cons, sum_by-append}
 use Rattle.masked_compare.specs.Fields.{is_shape, is_width, field_bits, fields_bits}
-use Rattle.bank_pack.specs.Banks.{BankColumn, BankColumns, widths_of, columns_of, has_room}
+use Rattle.bank_pack.specs.Banks.{widths_of, columns_of, has_room}
 use Rattle.bank_pack.specs.Plans.{bank_made}
 
 pub widths_made : (cs ws : List ℕ) → length cs ≡ length ws → widths_of (bank_made cs ws) ≡ ws

@@ -1,5 +1,6 @@
 -- Which columns of a cell share a word, and how many words and blocks their rows take. Source: after Johnson et al., VLDB 2008 (packed fields); the rule of the banks is this project's own.
-use Rattle.std.specs.Prelude.{ℕ, ◌+◌, ◌*◌, ◌/◌, Bool, true, false, List, [], ◌∷◌, ◌++◌, map, fold, sum_by, nat_le}
+use Rattle.std.specs.Prelude.{ℕ, ◌+◌, ◌*◌, ◌/◌, ◌==◌, Bool, true, false, List, [], ◌∷◌, ◌++◌, map, fold, sum_by, nat_le}
+use Rattle.std.specs.List.{list_any}
 use Rattle.blink_lists.specs.Lists.{numbered, ceil_div}
 use Rattle.masked_compare.specs.Fields.{fields_bits, field_bits, lane_bits, most_lane_bits}
 
@@ -19,6 +20,10 @@ widths_of bank = map (λ c. c.width) bank
 -- the columns of a bank, in the order of the fields
 abbrev pub columns_of : BankColumns → List ℕ
 columns_of bank = map (λ c. c.column) bank
+
+-- whether a bank holds a column
+abbrev pub holds_column : ℕ → BankColumns → Bool
+holds_column column bank = list_any (λ c. c == column) (columns_of bank)
 
 -- whether a bank has room for one more field
 abbrev pub has_room : BankColumns → BankColumn → Bool

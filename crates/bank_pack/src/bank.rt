@@ -1,6 +1,6 @@
 // The columns that share a word.
-ghost use Rattle.std.specs.Prelude.{◌≡◌, [], ◌∷◌, ◌++◌, true, length, IfOk, OnOk, IfSome, IsSome, ◌↔◌, IsTrue};
-ghost use Rattle.bank_pack.specs.Banks.{widths_of, columns_of, has_room};
+ghost use Rattle.std.specs.Prelude.{slice_get, Some, IfNone, false, ◌≡◌, [], ◌∷◌, ◌++◌, true, length, IfOk, OnOk, IfSome, IsSome, ◌↔◌, IsTrue};
+ghost use Rattle.bank_pack.specs.Banks.{widths_of, columns_of, has_room, holds_column};
 ghost use Rattle.masked_compare.specs.Fields.{is_width, is_shape};
 
 use masked_compare::Shape;
@@ -77,5 +77,19 @@ impl PlannedBank {
         ensures { result.now ≡ columns_of self.now }
     {
         self.columns.as_slice()
+    }
+
+    // The field of a column, where it is here.
+    pub(crate) fn field_of(&self, column: usize) -> Option<usize>
+        ensures there { IfSome result (λ field. slice_get (columns_of self.now) field ≡ Some column) }
+        ensures none { IfNone result (holds_column column self.now ≡ false) }
+    {
+        let columns = self.columns();
+        for field in 0..columns.len() {
+            if columns[field] as usize == column {
+                return Some(field);
+            }
+        }
+        None
     }
 }

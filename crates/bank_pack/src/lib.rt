@@ -6,5 +6,6 @@ pub mod examples;
 mod plan;
 
 pub use plan::BankPlan;
+
 #[cfg(test)]
 mod tests;

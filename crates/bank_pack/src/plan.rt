@@ -1,28 +1,19 @@
 // The banks of a cell.
 ghost use Rattle.std.specs.Prelude.{◌≡◌, ◌<◌, ◌≤◌, ◌+◌, true, length, slice_get, Some, IfOk, OnOk, [], slice_index_or as get_or};
-ghost use Rattle.std.specs.List.{list_all, position_or_len};
+ghost use Rattle.std.specs.List.{list_all, list_any, position_or_len};
 ghost use Rattle.masked_compare.specs.Fields.{is_width};
-ghost use Rattle.bank_pack.specs.Banks.{BankColumns, banks_of, put_in_first, has_room, widths_of, columns_of};
-ghost use Rattle.bank_pack.specs.Plans.{column_in, column_count};
+ghost use Rattle.bank_pack.specs.Banks.{banks_of, put_in_first, has_room, holds_column, widths_of, columns_of};
 
 use crate::bank::PlannedBank;
 use masked_compare::Shape;
 use std::alloc::{AllocError, Global};
 use std::marker::Model;
 
-// Where a column stands: its bank, and its field there.
-#[derive(Clone, Copy)]
-struct ColumnField {
-    bank: usize,
-    field: usize,
-}
-
 /// Which columns of a cell share a word, seen as its banks: each the columns whose fields lie side by side, the first
 /// field lowest. Source: after Johnson et al., VLDB 2008; the rule of the banks is this project's own.
 #[derive(Drop)]
 pub struct BankPlan {
     banks: Vec<PlannedBank>,
-    fields: Vec<ColumnField>,
 }
 
 impl Model for BankPlan {
@@ -46,7 +37,6 @@ impl BankPlan {
     {
         let mut plan = BankPlan {
             banks: Vec::new(alloc),
-            fields: Vec::with_capacity(alloc, widths.len())?,
         };
         for at in 0..widths.len() {
             plan.put(at as u32, widths[at])?;
@@ -74,6 +64,37 @@ impl BankPlan {
         ensures { result ≡ length self.now }
     {
         self.banks.len()
+    }
+
+    /// The shape of a bank's fields. It takes no memory.
+    pub fn shape(&self, bank: usize) -> Shape
+        requires { bank < length self.now }
+        ensures { result ≡ widths_of (get_or self.now bank []) }
+    {
+        self.banks[bank].shape()
+    }
+
+    /// A bank's columns, in the order of the fields. It takes no memory.
+    pub fn columns(&self, bank: usize) -> &[u32]
+        requires { bank < length self.now }
+        ensures { result.now ≡ columns_of (get_or self.now bank []) }
+    {
+        self.banks[bank].columns()
+    }
+
+    /// The bank of a column, and its field there. It takes no memory.
+    pub fn place(&self, column: usize) -> (usize, usize)
+        // Some bank holds the column.
+        requires { list_any (holds_column column) self.now ≡ true }
+        ensures bank { result.0 < length self.now }
+        ensures field { slice_get (columns_of (get_or self.now result.0 [])) result.1 ≡ Some column }
+    {
+        for bank in 0..self.banks.len() {
+            if let Some(field) = self.banks[bank].field_of(column) {
+                return (bank, field);
+            }
+        }
+        unreachable!()
     }
 }
 

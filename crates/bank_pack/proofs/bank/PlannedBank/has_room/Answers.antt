@@ -1,4 +1,4 @@
-use Rattle.std.proofs.Common.{◌∙◌, ap, is_some}
+use Rattle.std.proofs.Common.{◌∙◌, ap}
 use Rattle.bank_pack.specs.Banks.{has_room}
 use Rattle.bank_pack.proofs.Made.{room_made, same_answer}
 use Rattle.bank_pack.proofs.bank.PlannedBank.has_room.Goals as goal
