@@ -4,9 +4,9 @@ use Rattle.blink_base.specs.declared.op.Op.TheVariants as op
 use Rattle.blink_base.specs.declared.value.Kind.TheVariants as kind
 use Rattle.blink_base.specs.declared.value.Value.TheVariants as value
 use Rattle.blink_base.specs.declared.answer.Field.TheVariants as field
+use Rattle.blink_base.specs.declared.refusal.Refusal.TheVariants.{UnknownColumn, AmbiguousColumn}
 use Rattle.blink_base.specs.Lines.{printed_lines}
 use Rattle.star_sql.specs.declared.ast.ColumnName.{ColumnName}
-use Rattle.blink_base.specs.declared.refusal.Refusal.TheVariants.{UnknownColumn, AmbiguousColumn}
 use Rattle.star_sql.specs.declared.ast.Cond.{Cond}
 use Rattle.star_sql.specs.declared.ast.Item.{Item}
 use Rattle.star_sql.specs.declared.ast.Select.{Select}
