@@ -1,0 +1,15 @@
+use Rattle.std.proofs.Common.{◌≡◌, ◌+◌, ◌++◌, List, take}
+use Rattle.std.specs.List.{flat_map}
+use Rattle.blink_base.specs.declared.value.Value.{Value}
+use Rattle.blink_histogram.specs.Ranked.{counted}
+use Rattle.blink_histogram.specs.Numbering.{numbered_values}
+use Rattle.cell_layout.specs.Image.{column_values}
+use Rattle.cell_layout.specs.Putting.{rows_in_all}
+use Rattle.cell_layout.specs.Standing.{rows_in}
+use Rattle.cell_layout.proofs.apart.number_cells.Given as goal
+
+abbrev pub invariant-loop-cell : goal.invariant-loop-cell
+invariant-loop-cell g l = record {
+  counts : (before : List Value) → l.initial.keys ≡ counted before → l.keys ≡ counted (before ++ column_values (flat_map (rows_in l.dicts) (take l.cell-index l.cells)) l.key);
+  number : numbered_values l.keys ≡ numbered_values l.initial.keys + rows_in_all (take l.cell-index l.cells);
+}

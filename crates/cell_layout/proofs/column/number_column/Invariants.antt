@@ -1,0 +1,12 @@
+use Rattle.std.proofs.Common.{◌≡◌, ◌+◌, ◌++◌, List, take}
+use Rattle.blink_base.specs.declared.value.Value.{Value}
+use Rattle.blink_histogram.specs.Ranked.{counted}
+use Rattle.blink_histogram.specs.Numbering.{numbered_values}
+use Rattle.cell_layout.specs.Image.{column_values}
+use Rattle.cell_layout.proofs.column.number_column.Given as goal
+
+abbrev pub invariant-loop-row : goal.invariant-loop-row
+invariant-loop-row l = record {
+  counts : (before : List Value) → l.initial.interner ≡ counted before → l.interner ≡ counted (before ++ column_values (take l.row-index l.rows) l.column);
+  number : numbered_values l.interner ≡ numbered_values l.initial.interner + l.row-index;
+}

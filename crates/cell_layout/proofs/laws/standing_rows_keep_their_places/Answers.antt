@@ -1,0 +1,6 @@
+-- Rows that stand keep their places.
+use Rattle.cell_layout.proofs.Again.{stands_placed}
+use Rattle.cell_layout.proofs.laws.standing_rows_keep_their_places.Goals as goal
+
+pub returns : goal.returns
+returns c = stands_placed

@@ -1,0 +1,15 @@
+pub mod Again
+pub mod Blocks
+pub mod Examples
+pub mod Image
+pub mod Kept
+pub mod Laid
+pub mod Merging
+pub mod Placed
+pub mod Places
+pub mod Placing
+pub mod Putting
+pub mod Ranking
+pub mod Refusals
+pub mod Standing
+pub mod Valid

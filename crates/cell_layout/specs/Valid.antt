@@ -1,0 +1,107 @@
+-- Which images a table may have. Source: this project's own.
+use Rattle.std.specs.Prelude.{ℕ, ◌≤◌, Bool, true, not, ◌&&◌, ◌==◌, List, ◌++◌, map, length, count_by, nat_le, nat_lt, Option, Some, None, IsTrue}
+use Rattle.std.specs.List.{list_all, zip}
+use Rattle.std.specs.Str.{bytes_eq}
+use Rattle.blink_base.specs.declared.schema.Column.{Column}
+use Rattle.blink_base.specs.declared.schema.Schema.{Schema}
+use Rattle.blink_base.specs.Compared.{Row, same_value}
+use Rattle.blink_base.specs.Fits.{fits, is_entry}
+use Rattle.blink_base.specs.Words.{is_name}
+use Rattle.blink_lists.specs.Lists.{are_distinct, rises, joined}
+use Rattle.blink_lists.specs.Rearranged.{Rearranged}
+use Rattle.order_codes.specs.Places.{Classes, are_classes, class_at}
+use Rattle.cell_layout.specs.Image.{TableImage, CellImage, rows_of, column_values, is_coded}
+use Rattle.cell_layout.specs.Laid.{cell_cmp, laid, grown}
+
+-- how many columns a table may have
+abbrev pub most_columns : ℕ
+most_columns = 32
+
+-- how many columns may have several classes
+abbrev pub most_divided_columns : ℕ
+most_divided_columns = 3
+
+-- how many rows a cell, or rest, may have
+abbrev pub most_cell_rows : ℕ
+most_cell_rows = 4294967295
+
+-- how many rows a table may have
+abbrev pub most_rows : ℕ
+most_rows = 8388608
+
+-- the key, if any, is a column
+abbrev pub is_key_of : List Column → Option ℕ → Bool
+is_key_of columns None = true
+is_key_of columns (Some key) = nat_lt key (length columns)
+
+-- 1 to 32 columns of distinct names, and a key among them
+abbrev pub is_schema : Schema → Bool
+is_schema schema =
+    nat_le 1 (length schema.columns) && nat_le (length schema.columns) most_columns
+    && list_all (λ c. is_name c.name) schema.columns
+    && are_distinct bytes_eq (map (λ c. c.name) schema.columns)
+    && is_key_of schema.columns schema.key
+
+-- a column's classes hold good values of its kind alone
+abbrev pub are_column_classes : Column → Classes → Bool
+are_column_classes column classes = are_classes classes && list_all (is_entry column.kind) (joined classes)
+
+-- one list of classes per column, and at most three columns with several classes
+abbrev pub are_divided : Schema → List Classes → Bool
+are_divided schema columns =
+    length columns == length schema.columns
+    && list_all (λ p. are_column_classes p.0 p.1) (zip schema.columns columns)
+    && nat_le (count_by (λ classes. nat_lt 1 (length classes)) columns) most_divided_columns
+
+-- a number of rows that fits a cell, where it has any
+abbrev pub is_row_count : List (List ℕ) → Bool
+is_row_count rows = nat_le 1 (length rows) && nat_le (length rows) most_cell_rows
+
+-- each code is below its class's size
+abbrev pub are_codes : List Classes → List ℕ → List ℕ → Bool
+are_codes columns classes codes = length codes == length columns && list_all (λ p. nat_lt p.1 (length (class_at p.0.0 p.0.1))) (zip (zip columns classes) codes)
+
+-- a class number per column, below the column's number of classes; rows, and their codes
+abbrev pub is_cell : List Classes → CellImage → Bool
+is_cell columns cell =
+    length cell.classes == length columns
+    && list_all (λ p. nat_lt p.1 (length p.0)) (zip columns cell.classes)
+    && is_row_count cell.rows
+    && list_all (are_codes columns cell.classes) cell.rows
+
+-- a row of rest fits, and has a value in no class of its column
+abbrev pub is_rest_row : TableImage → Row → Bool
+is_rest_row image row = fits image.schema row && not (is_coded image.columns row)
+
+-- the values of the key are distinct
+abbrev pub are_keyed : Option ℕ → List Row → Bool
+are_keyed None rows = true
+are_keyed (Some key) rows = are_distinct same_value (column_values rows key)
+
+-- whether an image is one that a table may have
+abbrev pub is_valid : TableImage → Bool
+is_valid image =
+    is_schema image.schema
+    && are_divided image.schema image.columns
+    && list_all (is_cell image.columns) image.cells
+    && rises cell_cmp (map (λ cell. cell.classes) image.cells)
+    && list_all (is_rest_row image) image.rest
+    && nat_le (length image.rest) most_cell_rows
+    && are_keyed image.schema.key (rows_of image)
+
+-- rows that a table of this schema may hold
+pub record MayHold (schema : Schema) (rows : List Row) : Type 0 where
+  pub allowed : IsTrue (is_schema schema)
+  pub few : length rows ≤ most_rows
+  pub fit : IsTrue (list_all (fits schema) rows)
+  pub keyed : IsTrue (are_keyed schema.key rows)
+
+-- The law that rows laid out anew are a valid image of these rows in another order.
+abbrev pub LaidIsValid : Type 0
+LaidIsValid = (schema : Schema) (rows : List Row) → MayHold schema rows → IsTrue (is_valid (laid schema rows)) × Rearranged rows (rows_of (laid schema rows))
+
+-- The law that a grown image is a valid image of its rows and the further ones in another order.
+abbrev pub GrownIsValid : Type 0
+GrownIsValid =
+    (image : TableImage) (rows : List Row) → IsTrue (is_valid image) → MayHold image.schema (rows_of image ++ rows)
+    → IsTrue (is_valid (grown image rows)) × Rearranged (rows_of image ++ rows) (rows_of (grown image rows))
