@@ -1,5 +1,5 @@
 // Rows laid out anew.
-ghost use Rattle.std.specs.Prelude.{◌≡◌, ◌≤◌, ◌+◌, ◌++◌, All, IsTrue, IfOk, MatchResult, length};
+ghost use Rattle.std.specs.Prelude.{◌≡◌, ◌≤◌, ◌+◌, ◌++◌, All, IsTrue, IfErr, IfOk, length};
 ghost use Rattle.std.specs.List.{list_all};
 ghost use Rattle.blink_base.specs.Fits.{fits};
 ghost use Rattle.blink_lists.specs.Rearranged.{Rearranged};
@@ -29,7 +29,7 @@ impl<M: Ledger> Image<M> {
         ensures laid { IfOk result (λ image. image ≡ laid schema.now rows.now) }
         ensures valid { IfOk result (λ image. IsTrue (is_valid image)) }
         ensures rows { IfOk result (λ image. Rearranged rows.now (rows_of image)) }
-        ensures memory { MatchResult result (λ image. image ≡ laid schema.now rows.now) (λ why. why ≡ LayoutError.Memory) }
+        ensures memory { IfErr result (λ why. why ≡ LayoutError.Memory) }
     {
         Ok(Image::lay_out(alloc, schema, &[], rows.as_slice())?)
     }
