@@ -5,7 +5,7 @@ ghost use Rattle.blink_base.specs.Read.{whole_number};
 ghost use Rattle.blink_loader.specs.Records.{same_name};
 ghost use Rattle.blink_loader.specs.Range.{longest_input, range_of, range_over, count_below, told_range, record_fault, bad_field, is_counted, column_place};
 
-use crate::records::Records;
+use crate::records::{Records, field_of, same_name};
 use blink_base::whole_number;
 use csv::ByteRecord;
 use std::alloc::Global;
@@ -23,22 +23,6 @@ pub enum RangeFault {
     /// There was not enough memory.
     #[error("not enough memory")]
     Memory,
-}
-
-// The field at a place, empty past the end.
-fn field_of(row: &ByteRecord, at: usize) -> &[u8]
-    ensures { result.now ≡ slice_index_or (fields_of row.now) at [] }
-{
-    match row.get(at) {
-        Some(field) => field,
-        None => &[],
-    }
-}
-
-fn same_name(name: &str, field: &[u8]) -> bool
-    ensures { result ≡ same_name name.now field.now }
-{
-    name.as_bytes().eq_ignore_ascii_case(field)
 }
 
 // The place of a column in a header.
