@@ -1,4 +1,4 @@
-use Rattle.std.proofs.Common.{◌≡◌, ◌∙◌, sym, ap, true, length, refl, arith}
+use Rattle.std.proofs.Common.{◌≡◌, ◌∙◌, length, refl, arith}
 use Rattle.csv.specs.Records.{fields_of}
 use Rattle.blink_loader.proofs.BatchFacts.{next_name, no_pair}
 use Rattle.blink_loader.proofs.load.are_names.Goals as goal
