@@ -1,3 +1,4 @@
+pub mod BatchFacts
 pub mod LeftFacts
 pub mod NextRecord
 pub mod RangeFacts

@@ -5,8 +5,8 @@ use Rattle.csv.specs.Records.{field_at}
 use Rattle.csv.specs.Reading.{strip_bom, is_bom, default_config}
 use Rattle.csv.specs.declared.parser.State.TheVariants as st
 use Rattle.blink_loader.specs.Records.{Record, records_of}
-use Rattle.blink_loader.specs.Range.{range_over, column_place, count_below}
-use Rattle.blink_loader.proofs.NextRecord.{records_at_most}
+use Rattle.blink_loader.specs.Range.{range_over, column_place, count_below, width_of}
+use Rattle.blink_loader.proofs.NextRecord.{records_at_most, width_at_most}
 
 -- the field at a place, or the empty one
 pub at_place : (fields : List (List ℕ)) (at : ℕ) → unwrap_or (field_at fields at) [] ≡ get_or fields at []
@@ -35,5 +35,12 @@ strip_bom_at_most (a ∷ b ∷ c ∷ rest) = by (is_bom a b c)
 pub few_records : (text : List ℕ) → length (records_of text) ≤ length text + 1
 few_records text =
     let most = records_at_most default_config (length (strip_bom text) + 1) st.StartRecord (strip_bom text) in
+    let strip = strip_bom_at_most text in
+    omega arith
+
+-- the header has no more fields than there are bytes, and one
+pub narrow_header : (text : List ℕ) → width_of (records_of text) ≤ length text + 1
+narrow_header text =
+    let most = width_at_most default_config (length (strip_bom text) + 1) st.StartRecord (strip_bom text) in
     let strip = strip_bom_at_most text in
     omega arith

@@ -1,3 +1,4 @@
+pub mod Batch
 pub mod Examples
 pub mod Left
 pub mod Range

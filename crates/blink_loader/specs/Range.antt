@@ -71,6 +71,11 @@ range_at (Some column) header rest low high = count_below (length header) column
 abbrev pub column_place : List ℕ → Record → Option ℕ
 column_place name header = position_from (same_name name) 0 header
 
+-- how many fields the first of the records has
+abbrev pub width_of : List Record → ℕ
+width_of [] = 0
+width_of (header ∷ rest) = length header
+
 -- the count over records, the first of them the header
 abbrev pub range_over : List Record → List ℕ → ℤ → ℤ → Result ℕ RangeRefusal
 range_over [] name low high = Err unknown_column
@@ -84,8 +89,13 @@ longest_input = 67108864
 abbrev pub range_of : List ℕ → List ℕ → ℤ → ℤ → Result ℕ RangeRefusal
 range_of text name low high = range_over (records_of text) name low high
 
--- a count or a refusal as the answer of a call: every record at fault is the same answer as yet
+-- a record's fault as the answer of a call
+abbrev pub told_fault : RecordFault → RangeFault
+told_fault (arity at) = fault.Arity at
+told_fault (bad_value at field) = fault.BadValue at field
+
+-- a count or a refusal as the answer of a call
 abbrev pub told_range : Result ℕ RangeRefusal → Result ℕ RangeFault
 told_range (Ok count) = Ok count
 told_range (Err unknown_column) = Err fault.UnknownColumn
-told_range (Err (bad_record why)) = Err fault.BadInput
+told_range (Err (bad_record why)) = Err (told_fault why)

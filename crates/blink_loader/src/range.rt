@@ -1,11 +1,10 @@
 // How many records of a text have a column within bounds.
-ghost use Rattle.std.specs.Prelude.{◌≡◌, ◌≢◌, ◌≤◌, ◌<◌, ◌^◌, ℕ, [], Ok, Err, is_some, length, slice_index_or};
+ghost use Rattle.std.specs.Prelude.{◌≡◌, ◌≢◌, ◌≤◌, ◌<◌, ◌^◌, Err, length, option_map};
 ghost use Rattle.csv.specs.Records.{fields_of};
 ghost use Rattle.blink_base.specs.Read.{whole_number};
-ghost use Rattle.blink_loader.specs.Records.{same_name};
-ghost use Rattle.blink_loader.specs.Range.{longest_input, range_of, range_over, count_below, told_range, record_fault, bad_field, is_counted, column_place};
+ghost use Rattle.blink_loader.specs.Range.{longest_input, range_of, range_over, count_below, told_fault, told_range, record_fault, bad_field, width_of, is_counted, column_place};
 
-use crate::records::Records;
+use crate::records::{Records, field_of, same_name};
 use blink_base::whole_number;
 use csv::ByteRecord;
 use std::alloc::Global;
@@ -17,28 +16,23 @@ pub enum RangeFault {
     /// The header lacks the column, or there is no header.
     #[error("the header lacks the column")]
     UnknownColumn,
-    /// Some record has another length than the header, or a field that says no whole number.
-    #[error("a record is at fault")]
-    BadInput,
+    /// A record has another number of fields than the header.
+    #[error("record {at} has another number of fields than the header")]
+    Arity {
+        /// The number of the record, counted from 1 behind the header.
+        at: u64,
+    },
+    /// A field says no whole number.
+    #[error("field {field} of record {at} is no whole number")]
+    BadValue {
+        /// The number of the record, counted from 1 behind the header.
+        at: u64,
+        /// The number of the field in its record, counted from 1.
+        field: u32,
+    },
     /// There was not enough memory.
     #[error("not enough memory")]
     Memory,
-}
-
-// The field at a place, empty past the end.
-fn field_of(row: &ByteRecord, at: usize) -> &[u8]
-    ensures { result.now ≡ slice_index_or (fields_of row.now) at [] }
-{
-    match row.get(at) {
-        Some(field) => field,
-        None => &[],
-    }
-}
-
-fn same_name(name: &str, field: &[u8]) -> bool
-    ensures { result ≡ same_name name.now field.now }
-{
-    name.as_bytes().eq_ignore_ascii_case(field)
 }
 
 // The place of a column in a header.
@@ -53,22 +47,29 @@ fn column_place(header: &ByteRecord, column: &str) -> Option<usize>
     None
 }
 
-// Whether some field says no whole number.
-fn has_bad_field(row: &ByteRecord) -> bool
-    ensures { result ≡ is_some (bad_field (fields_of row.now)) }
+// The first field of a record that says no whole number, counted from 1.
+fn bad_field(row: &ByteRecord) -> Option<u32>
+    requires { length (fields_of row.now) < 2 ^ 32 }
+    ensures { result ≡ bad_field (fields_of row.now) }
 {
     for at in 0..row.len() {
         if whole_number(field_of(row, at)).is_none() {
-            return true;
+            return Some(at as u32 + 1);
         }
     }
-    false
+    None
 }
 
-fn is_faulty(width: usize, row: &ByteRecord) -> bool
-    ensures { (at : ℕ) → is_some (record_fault width at (fields_of row.now)) ≡ result }
+// The fault of the record of this number below a header of this length, where it has one.
+fn record_fault(width: usize, at: u64, row: &ByteRecord) -> Option<RangeFault>
+    requires { width < 2 ^ 32 }
+    ensures { result ≡ option_map told_fault (record_fault width at (fields_of row.now)) }
 {
-    row.len() != width || has_bad_field(row)
+    if row.len() != width {
+        return Some(RangeFault::Arity { at });
+    }
+    let field = bad_field(row)?;
+    Some(RangeFault::BadValue { at, field })
 }
 
 // Whether the field of a column lies within the bounds.
@@ -89,10 +90,12 @@ fn count_below(
     low: i64,
     high: i64,
 ) -> Result<u64, RangeFault>
-    requires { length rows.old < 2 ^ 64 }
+    requires width { width < 2 ^ 32 }
+    requires rows { length rows.old < 2 ^ 64 }
     ensures { result ≢ Err RangeFault.Memory → result ≡ told_range (count_below width column low high rows.old) }
 {
     let mut count = 0u64;
+    let mut at = 0u64;
     loop {
         let Ok(next) = rows.next() else {
             return Err(RangeFault::Memory);
@@ -100,8 +103,9 @@ fn count_below(
         let Some(row) = next else {
             return Ok(count);
         };
-        if is_faulty(width, &row) {
-            return Err(RangeFault::BadInput);
+        at += 1;
+        if let Some(fault) = record_fault(width, at, &row) {
+            return Err(fault);
         }
         if is_counted(column, low, high, &row) {
             count += 1;
@@ -111,7 +115,8 @@ fn count_below(
 
 // The count over the records that are left, the first of them the header.
 fn range_over(rows: &mut Records<'_>, column: &str, low: i64, high: i64) -> Result<u64, RangeFault>
-    requires { length rows.old < 2 ^ 64 }
+    requires width { width_of rows.old < 2 ^ 32 }
+    requires rows { length rows.old < 2 ^ 64 }
     ensures { result ≢ Err RangeFault.Memory → result ≡ told_range (range_over rows.old column.now low high) }
 {
     let Ok(first) = rows.next() else {
@@ -130,9 +135,12 @@ fn range_over(rows: &mut Records<'_>, column: &str, low: i64, high: i64) -> Resu
 /// numbers.
 ///
 /// The first record is the header; the column is the first of its fields that equals `column`, the case of ASCII letters
-/// apart. [`RangeFault::UnknownColumn`] comes exactly where there is none. [`RangeFault::BadInput`] comes exactly where
-/// there is one, and some record has another length than the header or a field that says no whole number. Bounds in the
-/// wrong order give 0. The records are those that the crate `csv` reads (RFC 4180); one is held at a time.
+/// apart. [`RangeFault::UnknownColumn`] comes exactly where there is none. Else the first record at fault decides:
+/// [`RangeFault::Arity`] where it has another number of fields than the header, and else [`RangeFault::BadValue`] at the
+/// first of its fields that says no whole number. [`RangeFault::Memory`] comes where there isn't enough memory. Bounds in
+/// the wrong order give 0.
+///
+/// The records are those that the crate `csv` reads (RFC 4180); one is held at a time. The faults are this project's own.
 pub fn range_count(
     alloc: Global,
     bytes: &[u8],

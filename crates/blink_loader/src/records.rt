@@ -1,7 +1,7 @@
 // The records of a CSV text, one behind the other.
-ghost use Rattle.std.specs.Prelude.{◌≡◌, ◌∷◌, [], IfOk, MatchOption};
+ghost use Rattle.std.specs.Prelude.{◌≡◌, ◌∷◌, [], IfOk, MatchOption, slice_index_or};
 ghost use Rattle.csv.specs.Records.{fields_of};
-ghost use Rattle.blink_loader.specs.Records.{records_of};
+ghost use Rattle.blink_loader.specs.Records.{records_of, same_name};
 
 use csv::{ByteRecord, ByteRecordsIntoIter, ReaderBuilder};
 use std::alloc::{AllocError, Global};
@@ -58,4 +58,21 @@ impl<'a> Records<'a> {
             }
         }
     }
+}
+
+// The field at a place, empty past the end.
+pub(crate) fn field_of(row: &ByteRecord, at: usize) -> &[u8]
+    ensures { result.now ≡ slice_index_or (fields_of row.now) at [] }
+{
+    match row.get(at) {
+        Some(field) => field,
+        None => &[],
+    }
+}
+
+// Whether two names are equal, the case of ASCII letters apart.
+pub(crate) fn same_name(name: &str, field: &[u8]) -> bool
+    ensures { result ≡ same_name name.now field.now }
+{
+    name.as_bytes().eq_ignore_ascii_case(field)
 }

@@ -31,12 +31,13 @@ WordsAsked =
     × (asked_by (codes "run" ∷ codes "--rows=5" ∷ []) ≡ nothing_known)
     × (asked_by (codes "demo" ∷ codes "1" ∷ codes "0" ∷ []) ≡ nothing_known)
 
--- from the bytes in to the bytes out: a count, a column that isn't there, and a record at fault
+-- from the bytes in to the bytes out: a count, a column that isn't there, a field at fault and a short record
 abbrev pub BytesTold : Type 0
 BytesTold =
     (count_told (codes "a") (pos 2) (pos 5) (codes "a\n1\n2\n5\n6\n") ≡ record { printed = codes "2\n"; refused = false })
     × (count_told (codes "A-Z_b") (pos 1) (pos 1) [] ≡ record { printed = codes "refused: unknown column a-z_b\n"; refused = true })
-    × (count_told (codes "a") (pos 2) (pos 5) (codes "a\nx\n") ≡ record { printed = codes "refused: not built\n"; refused = true })
+    × (count_told (codes "a") (pos 2) (pos 5) (codes "a\nx\n") ≡ record { printed = codes "refused: bad value 1 1\n"; refused = true })
+    × (count_told (codes "a") (pos 1) (pos 1) (codes "a,b\n1,1\n1\n") ≡ record { printed = codes "refused: arity 2\n"; refused = true })
 
 -- no files
 abbrev pub no_files : Files
@@ -80,7 +81,7 @@ words_asked_lem = (refl, refl, refl, refl, refl, refl, refl, refl, refl, refl, r
 
 pub bytes_told_lem : BytesTold
 unfolding digits next_record records_from strip_bom
-bytes_told_lem = (refl, refl, refl)
+bytes_told_lem = (refl, refl, refl, refl)
 
 pub nothing_said_lem : NothingSaid
 nothing_said_lem = (

@@ -3,10 +3,11 @@ use Rattle.std.specs.Prelude.{◌≡◌, ℕ, ℤ, Bool, true, false, List, [], 
 use Rattle.std.specs.List.{concat}
 use Rattle.std.specs.Str.{bytes_eq, str_to_ascii_lowercase}
 use Rattle.blink_base.specs.declared.limits.Limits.{Limits}
+use Rattle.blink_base.specs.declared.refusal.Refusal.{Refusal}
 use Rattle.blink_base.specs.declared.refusal.Refusal.TheVariants as refusal
 use Rattle.blink_base.specs.Read.{whole_number}
 use Rattle.report_text.specs.Texts.{Bytes, refusal_bytes, number_bytes, usage_bytes}
-use Rattle.blink_loader.specs.Range.{RangeRefusal, unknown_column, bad_record, range_of}
+use Rattle.blink_loader.specs.Range.{RangeRefusal, unknown_column, bad_record, arity, bad_value, range_of}
 use Rattle.star_engine.specs.Catalog.{Files}
 use Rattle.star_engine.specs.Step.{Outcome}
 use Rattle.blink_run.specs.Options.{limits_of}
@@ -56,11 +57,16 @@ pub record Told : Type 0 where
 abbrev pub told_script : List Outcome → Told
 told_script outcomes = record { printed = concat (outputs_of outcomes); refused = is_any_refused outcomes }
 
--- what a count tells: its line, or its refusal; the column's name is printed with small letters, and a record at fault is not told apart as yet
+-- the refusal of a count; the column's name is printed with small letters
+abbrev pub range_refusal : Bytes → RangeRefusal → Refusal
+range_refusal column unknown_column = refusal.UnknownColumn (str_to_ascii_lowercase column)
+range_refusal column (bad_record (arity at)) = refusal.Arity at
+range_refusal column (bad_record (bad_value at field)) = refusal.BadValue at field
+
+-- what a count tells: its line, or its refusal
 abbrev pub told_count : Bytes → Result ℕ RangeRefusal → Told
 told_count column (Ok count) = record { printed = number_bytes count; refused = false }
-told_count column (Err unknown_column) = record { printed = refusal_bytes (refusal.UnknownColumn (str_to_ascii_lowercase column)); refused = true }
-told_count column (Err (bad_record why)) = record { printed = refusal_bytes refusal.NotBuilt; refused = true }
+told_count column (Err why) = record { printed = refusal_bytes (range_refusal column why); refused = true }
 
 -- what the count of a column between two whole numbers tells of an input
 abbrev pub count_told : Bytes → ℤ → ℤ → Bytes → Told

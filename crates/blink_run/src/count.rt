@@ -45,8 +45,12 @@ fn tell_count(alloc: Global, bounds: Bounds<'_>, input: &[u8]) -> Result<Told, A
             line: unknown_column_line(alloc, bounds.column)?,
             refused: true,
         }),
-        Err(RangeFault::BadInput) => Ok(Told {
-            line: refusal_text(alloc, &Refusal::NotBuilt)?,
+        Err(RangeFault::Arity { at }) => Ok(Told {
+            line: refusal_text(alloc, &Refusal::Arity { at })?,
+            refused: true,
+        }),
+        Err(RangeFault::BadValue { at, field }) => Ok(Told {
+            line: refusal_text(alloc, &Refusal::BadValue { at, field })?,
             refused: true,
         }),
         Err(RangeFault::Memory) => Err(AllocError),

@@ -4,13 +4,10 @@ use Rattle.std.specs.List.{count_by}
 use Rattle.blink_loader.specs.Range.{is_counted}
 use Rattle.blink_loader.proofs.range.count_below.Goals as goal
 
-pub loop-next-init : goal.loop-next-init
-loop-next-init c = ((1, refl), omega arith, omega arith)
-
 pub returns-in_default-next : goal.returns-in_default-next
 returns-in_default-next c =
     let end = rw c.in_default-next.is at c.in-Ok.ensures in
-    let faults = rw end at c.loop-next.invariant.0.1 in
+    let faults = rw end at c.loop-next.invariant.0 in
     let low = to_z-of_z w64 c.args.low c.ranges.low in
     let high = to_z-of_z w64 c.args.high c.ranges.high in
     let all = rw (end, low, high) at c.loop-next.invariant.1 in

@@ -1,0 +1,9 @@
+use Rattle.std.proofs.Common.{arith}
+use Rattle.blink_loader.proofs.RangeFacts.{few_records}
+use Rattle.blink_loader.proofs.load.load.Goals as goal
+
+pub batch_over-requires-clause-records : goal.batch_over-requires-clause-records
+batch_over-requires-clause-records c =
+    let few = few_records c.args.bytes.now in
+    let most = c.type_inv.bytes in
+    rw c.new-records.ensures (omega arith)

@@ -1,0 +1,181 @@
+// The rows of a text for a table.
+ghost use Rattle.std.specs.Prelude.{◌≡◌, ◌≢◌, ◌≤◌, ◌<◌, ◌+◌, ◌^◌, Err, length};
+ghost use Rattle.std.specs.List.{list_all, zip};
+ghost use Rattle.csv.specs.Records.{fields_of};
+ghost use Rattle.blink_base.specs.Read.{read_value};
+ghost use Rattle.blink_loader.specs.Records.{same_name};
+ghost use Rattle.blink_loader.specs.Batch.{value_of, values_from, row_of, rows_from, is_header, batch_over, batch};
+
+use crate::records::{Records, field_of, same_name};
+use blink_base::{Column, Kind, List, Row, Schema, Value, ValueFault};
+use csv::ByteRecord;
+use std::alloc::Global;
+use thiserror::Error;
+
+/// Why a CSV text gives no rows. Source: this project's own.
+#[derive(Clone, Copy, Debug, PartialEq, Eq, Error)]
+pub enum LoadFault {
+    /// The first record isn't the names of the schema's columns in order, the case of ASCII letters apart.
+    #[error("the header has other names than the table")]
+    Header,
+    /// A record has another number of fields than the schema has columns.
+    #[error("record {at} has another number of fields than the table has columns")]
+    Arity {
+        /// The number of the record, counted from 1 behind the header.
+        at: u64,
+    },
+    /// A field says no value of its column's kind.
+    #[error("field {field} of record {at}: {fault}")]
+    BadValue {
+        /// The number of the record, counted from 1 behind the header.
+        at: u64,
+        /// The number of the field in its record, counted from 1.
+        field: u32,
+        /// The first form of the kind that the field breaks.
+        fault: ValueFault,
+    },
+    /// There was not enough memory.
+    #[error("not enough memory")]
+    Memory,
+}
+
+// Whether each field is the name of the column of its place.
+fn are_names(columns: &[Column], header: &ByteRecord) -> bool
+    requires { length (fields_of header.now) ≡ length columns.now }
+    ensures { result ≡ list_all (λ p. same_name p.0.name p.1) (zip columns.now (fields_of header.now)) }
+{
+    for (place, column) in columns.iter().enumerate() {
+        if !same_name(column.name.as_str(), field_of(header, place)) {
+            return false;
+        }
+    }
+    true
+}
+
+fn is_header(columns: &[Column], header: &ByteRecord) -> bool
+    ensures { result ≡ is_header columns.now (fields_of header.now) }
+{
+    header.len() == columns.len() && are_names(columns, header)
+}
+
+// What the field of this number in the record of this number says.
+fn value_of(
+    alloc: Global,
+    kind: Kind,
+    at: u64,
+    field: u32,
+    bytes: &[u8],
+) -> Result<Value, LoadFault>
+    ensures { result ≢ Err LoadFault.Memory → result ≡ value_of at field (read_value kind bytes.now) }
+{
+    match Value::read(alloc, kind, bytes) {
+        Ok(value) => Ok(value),
+        Err(ValueFault::Memory) => Err(LoadFault::Memory),
+        Err(fault) => Err(LoadFault::BadValue { at, field, fault }),
+    }
+}
+
+// The values of the fields of the record of this number, which are as many as the columns.
+fn values_of(
+    alloc: Global,
+    columns: &[Column],
+    at: u64,
+    fields: &ByteRecord,
+) -> Result<Row, LoadFault>
+    requires columns { length columns.now < 2 ^ 32 }
+    requires fields { length (fields_of fields.now) ≡ length columns.now }
+    ensures { result ≢ Err LoadFault.Memory → result ≡ values_from at 1 (zip columns.now (fields_of fields.now)) }
+{
+    let Ok(mut values) = Vec::with_capacity(alloc, columns.len()) else {
+        return Err(LoadFault::Memory);
+    };
+    for (place, column) in columns.iter().enumerate() {
+        let bytes = field_of(fields, place);
+        let value = value_of(alloc, column.kind, at, place as u32 + 1, bytes)?;
+        let Ok(()) = values.push(value) else {
+            return Err(LoadFault::Memory);
+        };
+    }
+    Ok(List::from_vec(values))
+}
+
+// The row of the record of this number.
+fn row_of(alloc: Global, columns: &[Column], at: u64, fields: &ByteRecord) -> Result<Row, LoadFault>
+    requires { length columns.now < 2 ^ 32 }
+    ensures { result ≢ Err LoadFault.Memory → result ≡ row_of columns.now at (fields_of fields.now) }
+{
+    if fields.len() != columns.len() {
+        return Err(LoadFault::Arity { at });
+    }
+    values_of(alloc, columns, at, fields)
+}
+
+// The rows of the records that are left, counted from 1.
+fn rows_of(
+    alloc: Global,
+    columns: &[Column],
+    records: &mut Records<'_>,
+) -> Result<List<Row>, LoadFault>
+    requires columns { length columns.now < 2 ^ 32 }
+    requires records { length records.old + 1 < 2 ^ 64 }
+    ensures { result ≢ Err LoadFault.Memory → result ≡ rows_from columns.now 1 records.old }
+{
+    let mut rows = List::new(alloc);
+    let mut at = 1u64;
+    loop {
+        let Ok(next) = records.next() else {
+            return Err(LoadFault::Memory);
+        };
+        let Some(record) = next else {
+            return Ok(rows);
+        };
+        let row = row_of(alloc, columns, at, &record)?;
+        let Ok(()) = rows.push(row) else {
+            return Err(LoadFault::Memory);
+        };
+        at += 1;
+    }
+}
+
+// The rows of the records that are left, the first of them the header.
+fn batch_over(
+    alloc: Global,
+    columns: &[Column],
+    records: &mut Records<'_>,
+) -> Result<List<Row>, LoadFault>
+    requires columns { length columns.now < 2 ^ 32 }
+    requires records { length records.old + 1 < 2 ^ 64 }
+    ensures { result ≢ Err LoadFault.Memory → result ≡ batch_over columns.now records.old }
+{
+    let Ok(first) = records.next() else {
+        return Err(LoadFault::Memory);
+    };
+    let Some(header) = first else {
+        return Ok(List::new(alloc));
+    };
+    if !is_header(columns, &header) {
+        return Err(LoadFault::Header);
+    }
+    rows_of(alloc, columns, records)
+}
+
+/// The rows of a CSV text for a table of at most 4,294,967,295 columns.
+///
+/// The first record is the header, and each further one is a row, in the order of the text. A field is read as
+/// [`Value::read`] reads it for the kind of its column. A text without a record has no rows.
+///
+/// [`LoadFault::Header`] comes exactly where there is a first record and it isn't the names of the columns in order, the
+/// case of ASCII letters apart. Else the first record at fault decides: [`LoadFault::Arity`] where it has another number
+/// of fields than there are columns, and else [`LoadFault::BadValue`] at the first of its fields that says no value of
+/// its column's kind, with the fault that [`Value::read`] gives. [`LoadFault::Memory`] comes where there isn't enough
+/// memory.
+///
+/// The records are those that the crate `csv` reads (RFC 4180); one is held at a time. The header and the faults are this
+/// project's own.
+pub fn load(alloc: Global, schema: &Schema, bytes: &[u8]) -> Result<List<Row>, LoadFault>
+    requires { length schema.now.columns ≤ 4294967295 }
+    ensures batch { result ≢ Err LoadFault.Memory → result ≡ batch schema.now bytes.now }
+{
+    let mut records = Records::new(alloc, bytes);
+    batch_over(alloc, schema.columns.as_slice(), &mut records)
+}
