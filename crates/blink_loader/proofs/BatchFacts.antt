@@ -4,7 +4,7 @@ use Rattle.std.specs.List.{list_all, zip}
 use Rattle.blink_base.specs.declared.schema.Column.{Column}
 use Rattle.blink_base.specs.declared.value.Value.{Value}
 use Rattle.blink_base.specs.Read.{read_value}
-use Rattle.blink_loader.specs.declared.load.LoadFault.{LoadFault}
+use Rattle.blink_loader.specs.declared.batch.LoadFault.{LoadFault}
 use Rattle.blink_loader.specs.Records.{Record, same_name}
 use Rattle.blink_loader.specs.Batch.{before, value_of, values_from}
 

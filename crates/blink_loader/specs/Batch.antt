@@ -7,8 +7,8 @@ use Rattle.blink_base.specs.declared.value.Value.{Value}
 use Rattle.blink_base.specs.declared.value.ValueFault.{ValueFault}
 use Rattle.blink_base.specs.Compared.{Row}
 use Rattle.blink_base.specs.Read.{read_value}
-use Rattle.blink_loader.specs.declared.load.LoadFault.{LoadFault}
-use Rattle.blink_loader.specs.declared.load.LoadFault.TheVariants as fault
+use Rattle.blink_loader.specs.declared.batch.LoadFault.{LoadFault}
+use Rattle.blink_loader.specs.declared.batch.LoadFault.TheVariants as fault
 use Rattle.blink_loader.specs.Records.{Record, records_of, same_name}
 
 -- something in front of what is behind it; the first fault counts

@@ -6,7 +6,7 @@ use Rattle.blink_base.specs.declared.schema.Schema.{Schema}
 use Rattle.blink_base.specs.declared.value.Kind.TheVariants as kind
 use Rattle.blink_base.specs.declared.value.Value.TheVariants.{Int, Text}
 use Rattle.blink_base.specs.declared.value.ValueFault.TheVariants as why
-use Rattle.blink_loader.specs.declared.load.LoadFault.TheVariants as load
+use Rattle.blink_loader.specs.declared.batch.LoadFault.TheVariants as load
 use Rattle.blink_loader.specs.Batch.{batch}
 use Rattle.blink_loader.specs.Records.{records_of}
 use Rattle.blink_loader.specs.Range.{range_of, unknown_column, bad_record, arity, bad_value}

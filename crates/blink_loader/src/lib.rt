@@ -1,12 +1,12 @@
 //! CSV texts as records, and what is read from them.
 #![tactic(auto)]
 
+mod batch;
 pub mod examples;
-pub mod load;
 mod range;
 mod records;
 
-pub use load::LoadFault;
+pub use batch::{LoadFault, load};
 pub use range::{RangeFault, range_count};
 
 #[cfg(test)]

@@ -1,5 +1,4 @@
 use super::*;
-use crate::load::load;
 use blink_base::{Column, Kind, List, Row, Schema, Value, ValueFault, Word};
 use std::alloc::{AllocError, Global};
 use std::test::Fail;

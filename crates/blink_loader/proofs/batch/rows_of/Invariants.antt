@@ -1,7 +1,7 @@
 use Rattle.std.proofs.Common.{◌≡◌, ◌≤◌, ◌+◌, length}
 use Rattle.blink_loader.specs.Batch.{rows_from}
 use Rattle.blink_loader.proofs.BatchFacts.{behind}
-use Rattle.blink_loader.proofs.load.rows_of.Given as goal
+use Rattle.blink_loader.proofs.batch.rows_of.Given as goal
 
 abbrev pub invariant-loop-next : goal.invariant-loop-next
 invariant-loop-next l =

@@ -2,7 +2,7 @@ use Rattle.std.proofs.Common.{◌≡◌, drop}
 use Rattle.std.specs.List.{list_all, zip}
 use Rattle.csv.specs.Records.{fields_of}
 use Rattle.blink_loader.specs.Records.{same_name}
-use Rattle.blink_loader.proofs.load.are_names.Given as goal
+use Rattle.blink_loader.proofs.batch.are_names.Given as goal
 
 abbrev pub invariant-loop-place : goal.invariant-loop-place
 invariant-loop-place l =

@@ -1,6 +1,6 @@
 use Rattle.std.proofs.Common.{arith}
 use Rattle.blink_loader.proofs.RangeFacts.{few_records}
-use Rattle.blink_loader.proofs.load.load.Goals as goal
+use Rattle.blink_loader.proofs.batch.load.Goals as goal
 
 pub batch_over-requires-clause-records : goal.batch_over-requires-clause-records
 batch_over-requires-clause-records c =
