@@ -5,7 +5,7 @@ use Rattle.std.specs.List.{zip}
 use Rattle.std.proofs.lemmas.Slice.Zip.{length-zip}
 use Rattle.std.proofs.lemmas.List.Elements.{All-head, All-tail}
 use Rattle.std.proofs.lemmas.List.Sums.{sum_by-cons}
-use Rattle.blink_lists.specs.Lists.{numbered, numbered_from}
+use Rattle.blink_lists.specs.Lists.{numbered}
 use Rattle.masked_compare.specs.Fields.{lane_holding, fields_bits}
 use Rattle.bank_pack.specs.Banks.{BankColumn, BankColumns, has_room, put_in_first, banks_of, page_blocks, widths_of, blocks_for}
 use Rattle.blink_base.specs.declared.schema.Schema.{Schema}
@@ -15,6 +15,7 @@ use Rattle.cell_layout.specs.declared.cell.Cell.{Cell}
 use Rattle.cell_layout.specs.Blocks.{cell_widths, cell_blocks}
 use Rattle.cell_layout.specs.Kept.{IsKeptCell, most_image_columns, image_kept, cell_kept}
 use Rattle.cell_layout.proofs.KeptRows.{length-rows}
+use Rattle.cell_layout.proofs.Numbers.{length-numbered}
 
 lane-few : (bits : ℕ) → lane_holding bits ≤ 32
 lane-few bits = by (nat_le bits 8) (nat_le bits 16) refl refl
@@ -38,10 +39,6 @@ length-put (bank ∷ banks) c = by (has_room bank c) refl (length-put banks c)
 length-filled : (banks : List BankColumns) (cs : List BankColumn) → length (fold put_in_first banks cs) ≤ length banks + length cs
 length-filled banks [] = omega arith
 length-filled banks (c ∷ cs) = let one = length-put banks c in let rest = length-filled (put_in_first banks c) cs in omega arith
-
-length-numbered : {X : Type 0} (n : ℕ) (xs : List X) → length (numbered_from n xs) ≡ length xs
-length-numbered n [] = refl
-length-numbered n (x ∷ xs) = let rest = length-numbered (n + 1) xs in omega arith
 
 -- no more banks than columns
 pub banks_few : (widths : List ℕ) → length (banks_of widths) ≤ length widths

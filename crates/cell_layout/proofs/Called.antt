@@ -1,5 +1,5 @@
 -- The classes that rows call for.
-use Rattle.std.proofs.Common.{◌≡◌, ℕ, zero, suc, pos, ◌+◌, ◌≤◌, ◌<◌, Bool, true, false, ◌&&◌, ◌||◌, ◌==◌, cond, List, [], ◌∷◌, map, filter, length, get_or, take, count_by, nat_le, nat_lt, refl, sym, ap, ◌∙◌, subst, arith, inl, inr}
+use Rattle.std.proofs.Common.{◌≡◌, ℕ, suc, pos, ◌+◌, ◌≤◌, ◌<◌, Bool, true, false, ◌&&◌, ◌||◌, ◌==◌, cond, List, [], ◌∷◌, map, filter, length, get_or, take, count_by, nat_le, nat_lt, refl, sym, ap, ◌∙◌, subst, arith, inl, inr}
 use Rattle.std.specs.List.{list_all, list_any, zip}
 use Rattle.std.specs.Ordering.{nat_cmp}
 use Rattle.std.proofs.lemmas.Bool.{and_parts, and_from, le-leb, eqb-true, eq-eqb, ne_eqb, cases_eq}
@@ -20,19 +20,12 @@ use Rattle.order_codes.specs.Places.{Classes}
 use Rattle.cell_layout.specs.Image.{column_values}
 use Rattle.cell_layout.specs.Laid.{in_pieces, classes_by, division_if, counts_of, divided_columns, classes_for}
 use Rattle.cell_layout.specs.Valid.{are_column_classes, are_divided, most_rows, most_divided_columns}
+use Rattle.cell_layout.proofs.Numbers.{length-numbers, length-numbered}
 use Rattle.cell_layout.proofs.Passed.{all_weaker, all_swapped}
 use Rattle.cell_layout.proofs.Groups.{in_order-rearranged}
 use Rattle.cell_layout.proofs.Sizes.{one_if_not}
 use Rattle.cell_layout.proofs.ClassPieces.{length-in_pieces, class_of_piece}
 use Rattle.cell_layout.proofs.Columns.{column_classes}
-
-length-numbered_from : {X : Type 0} (i : ℕ) (xs : List X) → length (numbered_from i xs) ≡ length xs
-length-numbered_from i [] = refl
-length-numbered_from i (x ∷ xs) = ap suc (length-numbered_from (i + 1) xs)
-
-length-numbers_from : (i n : ℕ) → length (numbers_from i n) ≡ n
-length-numbers_from i zero = refl
-length-numbers_from i (suc n) = ap suc (length-numbers_from (i + 1) n)
 
 -- the classes of a column, by its number
 abbrev classes_at : List ℕ → ℕ × List Counted → Classes
@@ -161,7 +154,7 @@ called_valid schema rows few fit =
     let chosen = chosen_columns (map (λ v. saving_of (counts_of v)) values) in
     let columns = divided_columns values in
     let long : length columns ≡ length schema.columns =
-    length-map (numbered values) (classes_at chosen) ∙ length-numbered_from 0 values ∙ length-map (numbers_from 0 (length schema.columns)) (λ column. ranked (column_values rows column)) ∙ length-numbers_from 0 (length schema.columns) in
+    length-map (numbered values) (classes_at chosen) ∙ length-numbered 0 values ∙ length-numbers (λ column. ranked (column_values rows column)) 0 (length schema.columns) in
     and_from (length columns == length schema.columns && list_all (λ p. are_column_classes p.0 p.1) (zip schema.columns columns)) (nat_le (count_by (λ classes. nat_lt 1 (length classes)) columns) most_divided_columns)
     (and_from (length columns == length schema.columns) (list_all (λ p. are_column_classes p.0 p.1) (zip schema.columns columns)) (eq-eqb _ _ long) (each_column chosen rows schema.columns 0 few (fits_entries schema rows fit)))
     (le-leb _ _ (few_divided values))

@@ -1,11 +1,11 @@
 -- The classes that are made of ranked columns.
-use Rattle.std.proofs.Common.{◌≡◌, ◌≤◌, ◌<◌, ℕ, zero, suc, ◌+◌, ◌-◌, Bool, true, false, ◌==◌, List, [], ◌∷◌, ◌++◌, map, take, length, get_or, ◌&&◌, sum, replicate, slice_get, Option, Some, None, if◌then◌else◌, nat_le, Result, Ok, Err, IfOk, refl, sym, ap, ◌∙◌, arith}
+use Rattle.std.proofs.Common.{◌≡◌, ◌≤◌, ◌<◌, ℕ, ◌+◌, ◌-◌, Bool, true, false, ◌==◌, List, [], ◌∷◌, ◌++◌, map, take, length, get_or, ◌&&◌, sum, replicate, slice_get, Option, Some, None, if◌then◌else◌, nat_le, Result, Ok, Err, IfOk, refl, sym, ap, ◌∙◌, arith}
 use Rattle.std.specs.List.{list_all, list_any}
 use Rattle.std.proofs.Math.Seq.{take-append_seam}
 use Rattle.std.specs.declared.alloc.AllocError.{AllocError}
 use Rattle.std.proofs.lemmas.Bool.{and_parts, eqb-true, leb-true}
 use Rattle.std.proofs.lemmas.List.{get_or-map, length-map, take_more}
-use Rattle.blink_lists.specs.Lists.{numbered, numbered_from}
+use Rattle.blink_lists.specs.Lists.{numbered}
 use Rattle.blink_base.specs.declared.value.Value.{Value}
 use Rattle.blink_base.specs.Compared.{Row}
 use Rattle.blink_histogram.specs.Ranked.{Counted, ranked}
@@ -16,18 +16,9 @@ use Rattle.cell_layout.specs.Laid.{classes_by, classes_if, counts_of, division_i
 use Rattle.cell_layout.specs.Ranking.{IsRanked, IsColumn}
 use Rattle.cell_layout.specs.declared.ranks.RankedColumn.{RankedColumn}
 use Rattle.cell_layout.specs.Valid.{most_rows}
-use Rattle.cell_layout.proofs.KeptRows.{numbers-at, length-numbers}
+use Rattle.cell_layout.proofs.Numbers.{numbers-at, length-numbers, numbered-at, length-numbered}
 use Rattle.cell_layout.proofs.Sizes.{sizes_if}
 use Rattle.cell_layout.proofs.Columns.{divided_are_classes, length-ranked-le}
-
-pub numbered-at : {X : Type 0} (a : ℕ) (xs : List X) (k : ℕ) (d : X) → k < length xs → get_or (numbered_from a xs) k (0, d) ≡ (a + k, get_or xs k d)
-numbered-at a [] k d lt = absurd (omega arith)
-numbered-at a (x ∷ xs) zero d lt = let e : a ≡ a + 0 = omega arith in ap (λ n. (n, x)) e
-numbered-at a (x ∷ xs) (suc k) d lt = let e : (a + 1) + k ≡ a + suc k = omega arith in numbered-at (a + 1) xs k d (omega arith) ∙ ap (λ n. (n, get_or xs k d)) e
-
-pub length-numbered : {X : Type 0} (a : ℕ) (xs : List X) → length (numbered_from a xs) ≡ length xs
-length-numbered a [] = refl
-length-numbered a (x ∷ xs) = ap suc (length-numbered (a + 1) xs)
 
 -- the columns that are divided
 abbrev pub chosen_of : List (List Counted) → List ℕ

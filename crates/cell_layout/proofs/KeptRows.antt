@@ -6,7 +6,6 @@ use Rattle.std.proofs.lemmas.Bool.{and_parts, ltb-true, eqb-true}
 use Rattle.std.proofs.lemmas.List.{get_or-map, get_or_default, take_more, take_all, length-map, append_assoc, length-append}
 use Rattle.std.proofs.lemmas.List.Sums.{sum_by-cons, sum_by_more_le}
 use Rattle.std.proofs.lemmas.Option.{slice_get-get_or}
-use Rattle.blink_lists.specs.Lists.{numbers_from}
 use Rattle.blink_base.specs.declared.value.Value.{Value}
 use Rattle.blink_base.specs.declared.value.Value.TheVariants.{Int}
 use Rattle.blink_base.specs.declared.schema.Schema.{Schema}
@@ -15,18 +14,9 @@ use Rattle.order_codes.specs.Places.{Classes, class_at, decoded}
 use Rattle.cell_layout.specs.declared.cell.Cell.{Cell}
 use Rattle.cell_layout.specs.Image.{TableImage, decoded_row, cell_at, cell_rows, rows_of, row_count}
 use Rattle.cell_layout.specs.Valid.{are_codes, is_row_count}
+use Rattle.cell_layout.proofs.Numbers.{numbers-at, length-numbers}
 use Rattle.cell_layout.specs.Standing.{rows_in, all_rows}
 use Rattle.cell_layout.specs.Kept.{row_kept, rows_kept, cell_kept, image_kept, IsKeptCell, most_image_rows}
-
--- numbers from 0 on
-pub numbers-at : {X : Type 0} (f : ℕ → X) (a n i : ℕ) (d : X) → i < n → get_or (map f (numbers_from a n)) i d ≡ f (a + i)
-numbers-at f a zero i d lt = absurd (omega arith)
-numbers-at f a (suc n) zero d lt = let e : a ≡ a + 0 = omega arith in ap f e
-numbers-at f a (suc n) (suc i) d lt = let e : (a + 1) + i ≡ a + suc i = omega arith in numbers-at f (a + 1) n i d (omega arith) ∙ ap f e
-
-pub length-numbers : {X : Type 0} (f : ℕ → X) (a n : ℕ) → length (map f (numbers_from a n)) ≡ n
-length-numbers f a zero = refl
-length-numbers f a (suc n) = let e = length-numbers f (a + 1) n in omega arith
 
 pub length-rows : (columns : List (List ℕ × ℕ)) (n : ℕ) → length (rows_kept columns n) ≡ n
 length-rows columns n = length-numbers (row_kept columns) 0 n

@@ -20,6 +20,7 @@ pub mod Keys
 pub mod Laying
 pub mod Lookups
 pub mod Merged
+pub mod Numbers
 pub mod Passed
 pub mod Pieces
 pub mod Placed

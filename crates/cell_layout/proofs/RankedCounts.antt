@@ -18,6 +18,7 @@ use Rattle.blink_base.specs.Compared.{same_value}
 use Rattle.blink_base.specs.Hashing.{value_equiv}
 use Rattle.blink_histogram.specs.Ranked.{Counted, counted, count_of, rank_cmp, distinct_values}
 use Rattle.cell_layout.specs.Laid.{counts_of}
+use Rattle.cell_layout.proofs.Passed.{all_weaker, all-filter}
 
 -- the count at a number
 count_here : (it : List Counted) (n : ℕ) (c : Counted) → slice_get it n ≡ Some c → slice_get (values_of it) n ≡ Some c.1
@@ -129,16 +130,6 @@ all-ranked : (p : Counted → Bool) (cs : List Counted) → list_all p cs ≡ tr
 all-ranked p [] all = refl
 all-ranked p (c ∷ cs) all = let parts = and_parts (p c) (list_all p cs) all in all-put p c (in_order rank_cmp cs) parts.0 (all-ranked p cs parts.1)
 
-all-filter : {X : Type 0} (p q r : X → Bool) (xs : List X) → ((x : X) → p x ≡ true → r x ≡ true) → list_all p xs ≡ true → list_all r (filter q xs) ≡ true
-all-filter p q r [] weaker all = refl
-all-filter p q r (x ∷ xs) weaker all =
-    let parts = and_parts (p x) (list_all p xs) all in
-    by (q x) refl parts.0 (all-filter p q r xs weaker parts.1)
-  where
-    by : (b : Bool) → q x ≡ b → p x ≡ true → list_all r (filter q xs) ≡ true → list_all r (filter q (x ∷ xs)) ≡ true
-    by true e here rest = rw e (and_from (r x) (list_all r (filter q xs)) (weaker x here) rest)
-    by false e here rest = rw e rest
-
 or-right : (a b : Bool) → b ≡ true → (a || b) ≡ true
 or-right true b e = refl
 or-right false b e = e
@@ -148,7 +139,8 @@ stands [] = refl
 stands (x ∷ column) =
     and_from (list_any (same_value x) (x ∷ column)) (list_all (λ v. list_any (same_value v) (x ∷ column)) (filter (λ y. not (same_value x y)) (distinct_values column)))
     (ap (λ b. b || list_any (same_value x) column) (value_equiv.refl x))
-    (all-filter (λ v. list_any (same_value v) column) (λ y. not (same_value x y)) (λ v. list_any (same_value v) (x ∷ column)) (distinct_values column) (λ v e. or-right (same_value v x) (list_any (same_value v) column) e) (stands column))
+    (all_weaker (λ v. list_any (same_value v) column) (λ v. list_any (same_value v) (x ∷ column)) (λ v e. or-right (same_value v x) (list_any (same_value v) column) e) (filter (λ y. not (same_value x y)) (distinct_values column))
+    (all-filter (λ v. list_any (same_value v) column) (λ y. not (same_value x y)) (distinct_values column) (stands column)))
 
 pub some-count : {X : Type 0} (p : X → Bool) (xs : List X) → list_any p xs ≡ true → 1 ≤ count_by p xs
 some-count p [] any = absurd (true≢false (sym any))
@@ -159,16 +151,10 @@ some-count p (x ∷ xs) any = by (p x) refl (or_cases (p x) (list_any p xs) any)
     by false e (inl here) more = absurd (true≢false (sym here ∙ e))
     by false e (inr later) more = let rest = more later in rw (sum_by-cons (λ y. cond (p y) 1 0) x xs, e) (omega arith)
 
-all-weak : {X : Type 0} (p r : X → Bool) (xs : List X) → ((x : X) → p x ≡ true → r x ≡ true) → list_all p xs ≡ true → list_all r xs ≡ true
-all-weak p r [] weaker all = refl
-all-weak p r (x ∷ xs) weaker all =
-    let parts = and_parts (p x) (list_all p xs) all in
-    and_from (r x) (list_all r xs) (weaker x parts.0) (all-weak p r xs weaker parts.1)
-
 -- each value of a column is counted at least once
 pub counted_positive : (column : List Value) (counts : List ℕ) → counts ≡ counts_of (in_order rank_cmp (counted column)) → All (λ n. 1 ≤ n) counts
 counted_positive column counts e k d lt =
-    let each = all-weak (λ v. list_any (same_value v) column) (λ v. nat_le 1 (count_of column v)) (distinct_values column) (λ v any. le-leb 1 (count_of column v) (some-count (same_value v) column any)) (stands column) in
+    let each = all_weaker (λ v. list_any (same_value v) column) (λ v. nat_le 1 (count_of column v)) (λ v any. le-leb 1 (count_of column v) (some-count (same_value v) column any)) (distinct_values column) (stands column) in
     let all = all-ranked (λ c. nat_le 1 c.1) (counted column) (list_all-map (λ (c : Counted). nat_le 1 c.1) (λ (v : Value). (v, count_of column v)) (distinct_values column) ∙ each) in
     let here : list_all (nat_le 1) counts ≡ true = ap (list_all (nat_le 1)) e ∙ list_all-map (nat_le 1) (λ (c : Counted). c.1) (in_order rank_cmp (counted column)) ∙ all in
     leb-true 1 (get_or counts k d) (AllPass-from_list_all (nat_le 1) counts here k d lt)

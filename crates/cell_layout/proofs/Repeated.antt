@@ -21,7 +21,7 @@ use Rattle.cell_layout.specs.Kept.{IsKeptCell, row_kept, rows_kept}
 use Rattle.cell_layout.specs.Refusals.{repeated_key, duplicate_of}
 use Rattle.cell_layout.specs.Standing.{rows_in}
 use Rattle.cell_layout.proofs.KeptRows.{has_codes, decoded_at, length-rows, row_at}
-use Rattle.cell_layout.proofs.Dividing.{numbered-at, length-numbered}
+use Rattle.cell_layout.proofs.Numbers.{numbered-at, length-numbered}
 use Rattle.cell_layout.proofs.RankedCounts.{some-count}
 
 -- whether a key stands before its place
