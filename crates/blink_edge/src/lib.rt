@@ -2,14 +2,15 @@
 //!
 //! [`Source`], [`Sink`] and [`Store`] are what the program asks of the outside. [`BytesIn`], [`BytesOut`] and [`Shelf`]
 //! are the outside in memory; they tell their bytes, and fail exactly at the calls that they are told to fail at.
-//! [`StdIn`] and [`StdOut`] stand over the streams of the system, and tell nothing. [`read_all`] and [`write_all`] move
-//! all bytes of a source or of a piece.
+//! [`StdIn`] and [`StdOut`] stand over the streams of the system, and [`Folder`] over its files; they tell nothing.
+//! [`read_all`] and [`write_all`] move all bytes of a source or of a piece.
 #![tactic(auto)]
 
 mod bytes_in;
 mod bytes_out;
 mod count;
 mod fault_plan;
+mod folder;
 mod shelf;
 mod sink;
 mod source;
@@ -19,6 +20,7 @@ mod whole;
 
 pub use bytes_in::BytesIn;
 pub use bytes_out::BytesOut;
+pub use folder::Folder;
 pub use shelf::Shelf;
 pub use sink::Sink;
 pub use source::{Failed, Source};

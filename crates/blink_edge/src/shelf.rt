@@ -40,6 +40,21 @@ fn content_of<'a>(files: &'a BTreeMap<String, Vec<u8>>, name: &str) -> Option<&'
     }
 }
 
+// Makes the name's content that, and keeps all others. AllocError changes nothing.
+fn insert_content(
+    alloc: Global,
+    files: &mut BTreeMap<String, Vec<u8>>,
+    name: &str,
+    content: Vec<u8>,
+) -> Result<(), AllocError>
+    ensures set { OnOk result (files_of files.new.entries ≡ insert (files_of files.old.entries) name.now content.items) }
+    ensures kept { OnErr result (files_of files.new.entries ≡ files_of files.old.entries) }
+{
+    let name = String::from_str(alloc, name)?;
+    files.insert(name, content)?;
+    Ok(())
+}
+
 // Makes the name's content these bytes, and keeps all others. AllocError changes nothing.
 fn set_content(
     alloc: Global,
@@ -50,10 +65,8 @@ fn set_content(
     ensures set { OnOk result (files_of files.new.entries ≡ insert (files_of files.old.entries) name.now bytes.now) }
     ensures kept { OnErr result (files_of files.new.entries ≡ files_of files.old.entries) }
 {
-    let name = String::from_str(alloc, name)?;
     let content = Vec::from_slice(alloc, bytes)?;
-    files.insert(name, content)?;
-    Ok(())
+    insert_content(alloc, files, name, content)
 }
 
 impl Shelf {
@@ -67,6 +80,22 @@ impl Shelf {
             files: BTreeMap::new(alloc),
             plan: FaultPlan::new(failing),
         }
+    }
+
+    /// Makes the name's file these bytes, and keeps all others. It counts as no call. AllocError where memory runs out;
+    /// it changes nothing. Source: this project's own.
+    pub fn set(&mut self, name: &str, bytes: Vec<u8>) -> Result<(), AllocError>
+        ensures ok { OnOk result (self.new ≡ record self.old { files = insert self.old.files name.now bytes.items }) }
+        ensures err { OnErr result (self.new ≡ self.old) }
+    {
+        insert_content(self.alloc, &mut self.files, name, bytes)
+    }
+
+    /// The name's file; None without one. It takes no memory. Source: this project's own.
+    pub fn file(&self, name: &str) -> Option<&[u8]>
+        ensures { option_map (λ content. content.now) result ≡ get self.now.files name.now }
+    {
+        content_of(&self.files, name)
     }
 }
 

@@ -1,4 +1,5 @@
 use super::*;
+use std::fs;
 use std::io::{Error, ErrorKind, Read, Result as IoResult, Write};
 use std::test::Fail;
 
@@ -59,6 +60,69 @@ fn adapters_move_bytes_and_report_faults(rt: HostRuntime) -> Result<(), Fail> {
     let mut sink = StdOut::new(Full);
     assert_eq!(rt; write_all(&mut sink, text), Err(Failed));
     assert_eq!(rt; write_all(&mut sink, b""), Ok(()));
+    Ok(())
+}
+
+#[test]
+fn a_folder_keeps_files(rt: HostRuntime) -> Result<(), Fail> {
+    let alloc = rt.alloc();
+    let mut folder = Folder::new(&rt);
+    let mut bytes = vec![in alloc; 7]?;
+    folder.put("a_folder_keeps_files.tmp", b"longer at first")?;
+    folder.put("a_folder_keeps_files.tmp", b"four")?;
+    assert_eq!(rt;
+        folder.fetch("a_folder_keeps_files.tmp", 4, &mut bytes)?,
+        Found::Whole
+    );
+    assert_eq!(rt; bytes.as_slice(), b"four".as_slice());
+    assert_eq!(rt;
+        folder.fetch("a_folder_keeps_files.tmp", 18446744073709551615, &mut bytes)?,
+        Found::Whole
+    );
+    assert_eq!(rt; bytes.as_slice(), b"four".as_slice());
+    assert_eq!(rt;
+        folder.fetch("a_folder_keeps_files.tmp", 3, &mut bytes)?,
+        Found::Long
+    );
+    assert_eq!(rt;
+        folder.fetch("a_folder_keeps_files.tmp/a", 9, &mut bytes),
+        Err(StoreError::Failed)
+    );
+    fs::remove_file(&rt, "a_folder_keeps_files.tmp")?;
+    assert_eq!(rt;
+        folder.fetch("a_folder_keeps_files.tmp", 9, &mut bytes)?,
+        Found::Absent
+    );
+    assert_eq!(rt;
+        folder.fetch("no_such_folder/a", 9, &mut bytes)?,
+        Found::Absent
+    );
+    assert_eq!(rt; folder.fetch("", 9, &mut bytes)?, Found::Absent);
+    assert_eq!(rt; folder.fetch(".", 9, &mut bytes), Err(StoreError::Failed));
+    assert_eq!(rt;
+        folder.fetch("a\0b", 9, &mut bytes),
+        Err(StoreError::Failed)
+    );
+    assert_eq!(rt; folder.put("", b"lost"), Err(StoreError::Failed));
+    assert_eq!(rt;
+        folder.put("no_such_folder/a", b"lost"),
+        Err(StoreError::Failed)
+    );
+    Ok(())
+}
+
+#[test]
+fn a_shelf_is_set_and_shown(rt: HostRuntime) -> Result<(), Fail> {
+    let alloc = rt.alloc();
+    let mut shelf = Shelf::new(alloc, vec![in alloc; 1]?);
+    assert!(rt; shelf.file("a").is_none());
+    shelf.set("a", Vec::from_slice(alloc, b"one")?)?;
+    shelf.set("b", Vec::from_slice(alloc, b"two")?)?;
+    shelf.set("a", Vec::from_slice(alloc, b"three")?)?;
+    assert_eq!(rt; shelf.file("a"), Some(b"three".as_slice()));
+    assert_eq!(rt; shelf.file("b"), Some(b"two".as_slice()));
+    assert_eq!(rt; shelf.put("b", b"lost"), Err(StoreError::Failed));
+    assert_eq!(rt; shelf.file("b"), Some(b"two".as_slice()));
     Ok(())
 }
 

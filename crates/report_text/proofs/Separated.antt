@@ -1,15 +1,17 @@
--- One more word behind others.
-use Rattle.std.proofs.Common.{◌≡◌, ◌+◌, ◌<◌, ℕ, List, [], ◌∷◌, ◌++◌, length, map, take, get_or, refl, append_assoc}
-use Rattle.std.proofs.lemmas.List.{take_more, map-append}
+-- Pieces with a mark between each two.
+use Rattle.std.proofs.Common.{◌≡◌, List, [], ◌∷◌, ◌++◌, sym, append_assoc, append-nil}
+use Rattle.std.proofs.lemmas.Grind.{flat_map-append}
+use Rattle.std.specs.List.{flat_map}
 use Rattle.blink_lists.specs.Lists.{separated}
 
-separated_more : {X : Type 0} (between first : List X) (pieces : List (List X)) (piece : List X)
-    → separated between (first ∷ (pieces ++ piece ∷ [])) ≡ separated between (first ∷ pieces) ++ between ++ piece
-separated_more between first [] piece = refl
-separated_more between first (next ∷ pieces) piece = rw (separated_more between next pieces piece) (simp append_assoc)
+-- the first piece, and the others behind a mark each
+pub separated_first : {X : Type 0} (mark first : List X) (others : List (List X)) → separated mark (first ∷ others) ≡ first ++ flat_map (λ piece. mark ++ piece) others
+separated_first mark first [] = sym (append-nil first)
+separated_first mark first (next ∷ others) = rw (separated_first mark next others) (simp append_assoc)
 
--- the pieces that the first of some values give, and then one more
-pub separated_taken : {A X : Type 0} (f : A → List X) (between first : List X) (xs : List A) (i : ℕ) (d : A) → i < length xs
-    → separated between (first ∷ map f (take (i + 1) xs)) ≡ separated between (first ∷ map f (take i xs)) ++ between ++ f (get_or xs i d)
-separated_taken f between first xs i d below =
-    rw (take_more xs i d, map-append f (take i xs) (get_or xs i d ∷ [])) (separated_more between first (map f (take i xs)) (f (get_or xs i d)))
+-- five pieces, and then two lists of more
+pub separated_parts : {X : Type 0} (old mark a b c d e end : List X) (more rest : List (List X))
+    → old ++ a ++ (mark ++ b) ++ (mark ++ c) ++ flat_map (λ piece. mark ++ piece) (d ∷ e ∷ []) ++ flat_map (λ piece. mark ++ piece) more ++ flat_map (λ piece. mark ++ piece) rest ++ end
+    ≡ old ++ (separated mark (a ∷ b ∷ c ∷ d ∷ e ∷ (more ++ rest)) ++ end)
+separated_parts old mark a b c d e end more rest =
+    rw (separated_first mark e (more ++ rest), flat_map-append (λ piece. mark ++ piece) more rest, append-nil (mark ++ e)) (simp append_assoc)

@@ -1,8 +1,9 @@
 -- Worked texts, as facts that compute. Source: this project's own.
-use Rattle.std.specs.Prelude.{◌≡◌, codes, refl}
+use Rattle.std.specs.Prelude.{◌≡◌, [], ◌∷◌, true, false, codes, refl}
 use Rattle.std.specs.Fmt.{digits}
 use Rattle.blink_base.specs.declared.refusal.Refusal.TheVariants as refusal
-use Rattle.report_text.specs.Texts.{refusal_bytes}
+use Rattle.blink_base.specs.declared.value.Kind.TheVariants as kind
+use Rattle.report_text.specs.Texts.{refusal_bytes, layout_bytes, created_bytes, dropped_bytes, reorganized_bytes, added_bytes}
 
 -- refusals without a name, with a name, and with numbers
 abbrev pub RefusalsPrinted : Type 0
@@ -15,3 +16,26 @@ RefusalsPrinted =
 pub refusals_printed_lem : RefusalsPrinted
 unfolding digits
 refusals_printed_lem = (refl, refl, refl, refl)
+
+-- a layout of two columns and two cells, an empty one, and what tells that a table changed
+abbrev pub LayoutsPrinted : Type 0
+LayoutsPrinted =
+    (layout_bytes (record {
+      table = codes "t";
+      rows = 142;
+      blocks = 2;
+      columns = record { name = codes "a"; kind = kind.Int; classes = record { width = 1; size = 2 } ∷ record { width = 2; size = 3 } ∷ []; key = true } ∷ record { name = codes "b"; kind = kind.Text; classes = record { width = 1; size = 1 } ∷ []; key = false } ∷ [];
+      cells = record { classes = 0 ∷ 0 ∷ []; rows = 110; pages = 1; banks = 8 ∷ 4 ∷ [] } ∷ record { classes = 1 ∷ 0 ∷ []; rows = 30; pages = 1; banks = 8 ∷ [] } ∷ [];
+      rest = 2;
+    })
+    ≡ codes "table t rows 142 blocks 2\ncolumn a int classes 2 1:2 2:3 key\ncolumn b text classes 1 1:1\ncell 0.0 rows 110 pages 1 banks 8,4\ncell 1.0 rows 30 pages 1 banks 8\nrest 2\n")
+    × (layout_bytes (record { table = codes "u"; rows = 0; blocks = 1; columns = record { name = codes "d"; kind = kind.Date; classes = []; key = false } ∷ []; cells = []; rest = 0 })
+    ≡ codes "table u rows 0 blocks 1\ncolumn d date classes 0\nrest 0\n")
+    × (created_bytes (codes "t") ≡ codes "created t\n")
+    × (dropped_bytes (codes "t") ≡ codes "dropped t\n")
+    × (reorganized_bytes (codes "t") ≡ codes "reorganized t\n")
+    × (added_bytes 12 ≡ codes "added 12\n")
+
+pub layouts_printed_lem : LayoutsPrinted
+unfolding digits
+layouts_printed_lem = (refl, refl, refl, refl, refl, refl)

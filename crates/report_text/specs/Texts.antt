@@ -1,9 +1,15 @@
 -- The bytes that are printed. Source: this project's own.
-use Rattle.std.specs.Prelude.{ℕ, List, [], ◌∷◌, ◌++◌, codes}
+use Rattle.std.specs.Prelude.{ℕ, Bool, true, false, List, [], ◌∷◌, ◌++◌, map, flat_map, length, codes}
 use Rattle.std.specs.Fmt.{decimal}
 use Rattle.blink_lists.specs.Lists.{separated}
 use Rattle.blink_base.specs.declared.refusal.Refusal.{Refusal}
 use Rattle.blink_base.specs.declared.refusal.Refusal.TheVariants as refusal
+use Rattle.blink_base.specs.declared.value.Kind.{Kind}
+use Rattle.blink_base.specs.declared.value.Kind.TheVariants as kind
+use Rattle.report_text.specs.declared.lines.ClassLine.{ClassLine}
+use Rattle.report_text.specs.declared.lines.ColumnLine.{ColumnLine}
+use Rattle.report_text.specs.declared.lines.CellLine.{CellLine}
+use Rattle.report_text.specs.declared.lines.LayoutLines.{LayoutLines}
 
 -- bytes
 abbrev pub Bytes : Type 0
@@ -43,9 +49,65 @@ refusal_words refusal.NotBuilt = codes "not built" ∷ []
 abbrev pub refusal_bytes : Refusal → Bytes
 refusal_bytes why = line_text (codes "refused:" ∷ refusal_words why)
 
+-- the line of a CREATE
+abbrev pub created_bytes : Bytes → Bytes
+created_bytes name = line_text (codes "created" ∷ name ∷ [])
+
+-- the line of a DROP
+abbrev pub dropped_bytes : Bytes → Bytes
+dropped_bytes name = line_text (codes "dropped" ∷ name ∷ [])
+
+-- the line of a REORGANIZE
+abbrev pub reorganized_bytes : Bytes → Bytes
+reorganized_bytes name = line_text (codes "reorganized" ∷ name ∷ [])
+
+-- the line of rows that were added
+abbrev pub added_bytes : ℕ → Bytes
+added_bytes n = line_text (codes "added" ∷ decimal n ∷ [])
+
 -- a count alone on its line
 abbrev pub number_bytes : ℕ → Bytes
 number_bytes n = line_text (decimal n ∷ [])
+
+-- pieces, each behind a mark
+abbrev pub each_behind : Bytes → List Bytes → Bytes
+each_behind mark pieces = flat_map (λ piece. mark ++ piece) pieces
+
+-- the name of a kind
+abbrev pub kind_text : Kind → Bytes
+kind_text kind.Int = codes "int"
+kind_text kind.Text = codes "text"
+kind_text kind.Date = codes "date"
+
+-- WIDTH:SIZE of a class
+abbrev pub class_text : ClassLine → Bytes
+class_text c = decimal c.width ++ codes ":" ++ decimal c.size
+
+-- the word behind the primary key
+abbrev pub key_words : Bool → List Bytes
+key_words true = codes "key" ∷ []
+key_words false = []
+
+-- the line of a column: its classes, and whether it is the key
+abbrev pub column_bytes : ColumnLine → Bytes
+column_bytes c = line_text (codes "column" ∷ c.name ∷ kind_text c.kind ∷ codes "classes" ∷ decimal (length c.classes) ∷ map class_text c.classes ++ key_words c.key)
+
+-- numbers with a mark between each two
+abbrev pub numbers_text : Bytes → List ℕ → Bytes
+numbers_text mark ns = separated mark (map decimal ns)
+
+-- the line of a cell
+abbrev pub cell_bytes : CellLine → Bytes
+cell_bytes c =
+    line_text (codes "cell" ∷ numbers_text (codes ".") c.classes ∷ codes "rows" ∷ decimal c.rows ∷ codes "pages" ∷ decimal c.pages ∷ codes "banks" ∷ numbers_text (codes ",") c.banks ∷ [])
+
+-- the lines of DESCRIBE
+abbrev pub layout_bytes : LayoutLines → Bytes
+layout_bytes l =
+    line_text (codes "table" ∷ l.table ∷ codes "rows" ∷ decimal l.rows ∷ codes "blocks" ∷ decimal l.blocks ∷ [])
+    ++ flat_map column_bytes l.columns
+    ++ flat_map cell_bytes l.cells
+    ++ line_text (codes "rest" ∷ decimal l.rest ∷ [])
 
 -- the line for words of the command line that are in no form
 abbrev pub usage_bytes : Bytes

@@ -3,7 +3,7 @@ ghost use Rattle.std.specs.Prelude.{◌≡◌, [], ◌∷◌, codes, IfOk};
 ghost use Rattle.std.specs.Fmt.{decimal};
 ghost use Rattle.report_text.specs.Texts.{line_text, refusal_bytes};
 
-use crate::lines::line_text;
+use crate::words::line_text;
 use blink_base::{List, Refusal, Word};
 use itoa::Buffer;
 use std::alloc::{AllocError, Global};

@@ -1,9 +1,0 @@
-use Rattle.std.proofs.Common.{◌∙◌, ap}
-use Rattle.blink_edge.specs.Memory.{files_of}
-use Rattle.blink_edge.proofs.FileFacts.{files_insert_entry}
-use Rattle.blink_edge.proofs.shelf.set_content.Goals as goal
-
-pub returns-clause-set : goal.returns-clause-set
-returns-clause-set c =
-    let inserted = ap files_of c.in_ok-insert.ensures.entries ∙ files_insert_entry c.args.files.now.entries c.in_ok-name.name c.in_ok-content.content in
-    rw (c.in_ok-name.ensures.ok, c.in_ok-content.ensures.items) at inserted
