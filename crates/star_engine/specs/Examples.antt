@@ -4,11 +4,12 @@ use Rattle.blink_base.specs.declared.limits.Limits.{Limits}
 use Rattle.blink_base.specs.declared.refusal.Refusal.TheVariants as refusal
 use Rattle.star_sql.specs.declared.ast.Statement.TheVariants as statement
 use Rattle.star_engine.specs.Catalog.{State}
+use Rattle.star_engine.specs.Changes.{new_table}
 use Rattle.star_engine.specs.Step.{step, refuse}
 
 -- one table and no files
 abbrev pub one_table : State
-one_table = record { tables = record { name = codes "t" } ∷ []; files = λ name. None }
+one_table = record { tables = new_table (codes "t") (record { columns = []; key = None }) ∷ []; files = λ name. None }
 
 -- one row and one block
 abbrev pub few : Limits

@@ -1,3 +1,12 @@
+pub mod Adding
+pub mod Answers
+pub mod Batches
 pub mod Catalog
+pub mod Changes
 pub mod Examples
+pub mod Faults
+pub mod Shown
+pub mod Sound
 pub mod Step
+pub mod Worked
+pub mod Written

@@ -1,6 +1,7 @@
 //! Worked steps, as facts that compute.
 
 ghost use Rattle.star_engine.specs.Examples.{StatementsStepped, TextsRefused};
+ghost use Rattle.star_engine.specs.Worked.{CreatesTold, DropsTold, AddsTold, RowsWritten};
 
 /// A statement that isn't built is refused, and keeps the tables and the files.
 #[tactic(auto, using(crate::specs::Examples::statements_stepped_lem))]
@@ -12,4 +13,28 @@ pub fn statements_stepped()
 #[tactic(auto, using(crate::specs::Examples::texts_refused_lem))]
 pub fn texts_refused()
     ensures { TextsRefused }
+{}
+
+/// Why a table isn't made, in order, and one that is made.
+#[tactic(auto, using(crate::specs::Worked::creates_told_lem))]
+pub fn creates_told()
+    ensures { CreatesTold }
+{}
+
+/// A table goes, where it is there.
+#[tactic(auto, using(crate::specs::Worked::drops_told_lem))]
+pub fn drops_told()
+    ensures { DropsTold }
+{}
+
+/// The number of rows is told before a key that stands twice.
+#[tactic(auto, using(crate::specs::Worked::adds_told_lem))]
+pub fn adds_told()
+    ensures { AddsTold }
+{}
+
+/// Written rows, and the first row at fault.
+#[tactic(auto, using(crate::specs::Worked::rows_written_lem))]
+pub fn rows_written()
+    ensures { RowsWritten }
 {}

@@ -1,0 +1,15 @@
+use Rattle.std.proofs.Common.{◌∙◌, ap}
+use Rattle.blink_base.specs.Dates.{date_of}
+use Rattle.blink_base.specs.Read.{date_or_fault}
+use Rattle.star_engine.proofs.Values.{date_told, date_entries}
+use Rattle.star_engine.proofs.written.date_value.Goals as goal
+
+pub returns-clause-value : goal.returns-clause-value
+returns-clause-value c =
+    let same = c.as_bytes.ensures.value ∙ c.as_str.ensures in
+    c.ok.ensures.value ∙ date_told c.read.result c.args.word.now (λ known. c.read.ensures.value known ∙ ap (λ t. date_or_fault (date_of t)) same) c.read.ensures.memory
+
+pub returns-clause-entry : goal.returns-clause-entry
+returns-clause-entry c =
+    let same = c.as_bytes.ensures.value ∙ c.as_str.ensures in
+    date_entries c.args.word.now c.ok.result (c.ok.ensures.value ∙ date_told c.read.result c.args.word.now (λ known. c.read.ensures.value known ∙ ap (λ t. date_or_fault (date_of t)) same) c.read.ensures.memory)

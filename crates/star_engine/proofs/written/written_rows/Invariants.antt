@@ -1,0 +1,12 @@
+use Rattle.std.proofs.Common.{◌≡◌, ◌+◌, drop, IsTrue}
+use Rattle.std.specs.List.{list_all}
+use Rattle.blink_base.specs.Fits.{fits}
+use Rattle.star_engine.specs.Written.{written_from}
+use Rattle.star_engine.proofs.Writing.{behind}
+use Rattle.star_engine.proofs.written.written_rows.Given as goal
+
+abbrev pub invariant-loop-place : goal.invariant-loop-place
+invariant-loop-place l = record {
+  made : written_from l.schema.columns 1 l.written ≡ behind l.rows.items (written_from l.schema.columns (l.place + 1) (drop l.place l.written));
+  fit : IsTrue (list_all (fits l.schema) l.rows.items);
+}

@@ -1,0 +1,137 @@
+// The rows that an INSERT writes.
+ghost use Rattle.std.specs.Prelude.{◌≡◌, ◌≢◌, ◌≤◌, ◌<◌, ◌+◌, ◌^◌, Err, IsTrue, IfOk, IfSome, length, pos, nat_lt};
+ghost use Rattle.std.specs.List.{list_all, zip};
+ghost use Rattle.blink_base.specs.Compared.{Row as Values};
+ghost use Rattle.blink_base.specs.Dates.{date_of};
+ghost use Rattle.blink_base.specs.Fits.{fits, is_entry};
+ghost use Rattle.star_sql.specs.Literals.{literal_value, signed, text_if_short};
+ghost use Rattle.star_sql.specs.WellFormed.{is_literal, is_written_number, some_and_all};
+ghost use Rattle.star_engine.specs.Answers.{IsAnswer};
+ghost use Rattle.star_engine.specs.Batches.{are_written};
+ghost use Rattle.star_engine.specs.Written.{written_values, written_row, written_from};
+
+use crate::EngineError;
+use blink_base::{Column, Kind, List, Refusal, Row, Schema, Value, Word};
+use star_sql::Literal;
+use std::alloc::{AllocError, Global};
+
+// A written number, as a value.
+fn number_value(minus: bool, number: i64) -> Value
+    requires { IsTrue (is_written_number number) }
+    ensures value { result ≡ Value.Int (signed minus number) }
+    ensures entry { IsTrue (is_entry Kind.Int result) }
+{
+    Value::Int(if minus { -number } else { number })
+}
+
+// A written text, as a value, where it is short enough.
+fn text_value(alloc: Global, word: &Word) -> Result<Option<Value>, AllocError>
+    ensures value { IfOk result (λ value. value ≡ text_if_short word.now) }
+    ensures entry { IfOk result (λ value. IfSome value (λ v. IsTrue (is_entry Kind.Text v))) }
+{
+    if word.as_str().len() > 255 {
+        return Ok(None);
+    }
+    Ok(Some(Value::Text(word.copy(alloc)?)))
+}
+
+// A written date, as a value, where it is one.
+fn date_value(alloc: Global, word: &Word) -> Option<Value>
+    ensures value { result ≡ literal_value Kind.Date (Literal.Date word.now) }
+    ensures entry { IfSome result (λ v. IsTrue (is_entry Kind.Date v)) }
+{
+    Value::read(alloc, Kind::Date, word.as_str().as_bytes()).ok()
+}
+
+// The value that a literal is at a column of a kind, where it may stand there.
+fn literal_value(alloc: Global, kind: Kind, literal: &Literal) -> Result<Option<Value>, AllocError>
+    requires { IsTrue (is_literal literal.now) }
+    ensures value { IfOk result (λ value. value ≡ literal_value kind literal.now) }
+    ensures entry { IfOk result (λ value. IfSome value (λ v. IsTrue (is_entry kind v))) }
+{
+    match literal {
+        Literal::Number { minus, value } => match kind {
+            Kind::Int => Ok(Some(number_value(*minus, *value))),
+            _ => Ok(None),
+        },
+        Literal::Text(word) => match kind {
+            Kind::Int => Ok(None),
+            Kind::Text => text_value(alloc, word),
+            Kind::Date => Ok(date_value(alloc, word)),
+        },
+        Literal::Date(word) => match kind {
+            Kind::Date => Ok(date_value(alloc, word)),
+            _ => Ok(None),
+        },
+    }
+}
+
+// The values of the literals of the row of this number, which are as many as the columns.
+fn values_of(
+    alloc: Global,
+    columns: &[Column],
+    at: u64,
+    literals: &[Literal],
+) -> Result<Row, EngineError>
+    requires columns { length columns.now < 2 ^ 32 }
+    requires fields { length literals.now ≡ length columns.now }
+    requires good { IsTrue (list_all is_literal literals.now) }
+    ensures row { IsAnswer result (written_values at 1 (zip columns.now literals.now)) }
+    ensures long { IfOk result (λ row. length row ≡ length columns.now) }
+    ensures entries { IfOk result (λ row. IsTrue (list_all (λ p. is_entry p.0.kind p.1) (zip columns.now row))) }
+{
+    let mut values = Vec::with_capacity(alloc, columns.len())?;
+    for (place, column) in columns.iter().enumerate() {
+        match literal_value(alloc, column.kind, &literals[place])? {
+            Some(value) => {
+                let Ok(()) = values.push(value) else {
+                    return Err(EngineError::Memory);
+                };
+            }
+            None => {
+                let field = place as u32 + 1;
+                return Err(EngineError::Refused(Refusal::BadValue { at, field }));
+            }
+        }
+    }
+    Ok(List::from_vec(values))
+}
+
+// The row of this number.
+fn written_row(
+    alloc: Global,
+    schema: &Schema,
+    at: u64,
+    literals: &[Literal],
+) -> Result<Row, EngineError>
+    requires columns { length schema.now.columns < 2 ^ 32 }
+    requires good { IsTrue (list_all is_literal literals.now) }
+    ensures row { IsAnswer result (written_row schema.now.columns at literals.now) }
+    ensures fit { IfOk result (λ row. IsTrue (fits schema.now row)) }
+{
+    if literals.len() != schema.columns.len() {
+        return Err(EngineError::Refused(Refusal::Arity { at }));
+    }
+    values_of(alloc, schema.columns.as_slice(), at, literals)
+}
+
+// The rows that an INSERT writes into a table of this schema.
+pub(crate) fn written_rows(
+    alloc: Global,
+    schema: &Schema,
+    written: &[List<Literal>],
+) -> Result<List<Row>, EngineError>
+    requires columns { length schema.now.columns < 2 ^ 32 }
+    requires good { IsTrue (list_all (some_and_all is_literal) written.now) }
+    ensures rows { IsAnswer result (written_from schema.now.columns 1 written.now) }
+    ensures fit { IfOk result (λ rows. IsTrue (list_all (fits schema.now) rows)) }
+{
+    let mut rows = Vec::with_capacity(alloc, written.len())?;
+    for (place, literals) in written.iter().enumerate() {
+        let row = written_row(alloc, schema, place as u64 + 1, literals.as_slice())?;
+        let Ok(()) = rows.push(row) else {
+            return Err(EngineError::Memory);
+        };
+    }
+    Ok(List::from_vec(rows))
+}
