@@ -1,5 +1,6 @@
 pub mod Batched
 pub mod Columned
+pub mod Lining
 pub mod Places
 pub mod Refused
 pub mod Soundness

@@ -13,7 +13,7 @@ use Rattle.star_engine.specs.declared.batch.Source.TheVariants.{Text, Written}
 use Rattle.star_engine.specs.Written.{written}
 use Rattle.star_sql.specs.WellFormed.{is_literal, some_and_all}
 
--- the refusal of a CSV text
+-- the refusal of a CSV text; a text has none for want of memory
 abbrev pub load_refusal : LoadFault → Refusal
 load_refusal load.Header = refusal.BadHeader
 load_refusal (load.Arity at) = refusal.Arity at

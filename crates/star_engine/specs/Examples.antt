@@ -1,7 +1,11 @@
 -- Worked steps, as facts that compute. Source: this project's own.
-use Rattle.std.specs.Prelude.{◌≡◌, [], ◌∷◌, codes, None, Ok, Err, refl}
+use Rattle.std.specs.Prelude.{◌≡◌, ℕ, pos, List, [], ◌∷◌, true, false, codes, Option, None, Some, Ok, Err, refl}
+use Rattle.std.specs.Fmt.{digits}
 use Rattle.blink_base.specs.declared.limits.Limits.{Limits}
 use Rattle.blink_base.specs.declared.refusal.Refusal.TheVariants as refusal
+use Rattle.blink_base.specs.declared.value.Kind.TheVariants as kind
+use Rattle.star_sql.specs.declared.ast.ColumnDef.{ColumnDef}
+use Rattle.star_sql.specs.declared.ast.Literal.TheVariants as literal
 use Rattle.star_sql.specs.declared.ast.Statement.TheVariants as statement
 use Rattle.star_engine.specs.Catalog.{State}
 use Rattle.star_engine.specs.Changes.{new_table}
@@ -15,12 +19,22 @@ one_table = record { tables = new_table (codes "t") (record { columns = []; key 
 abbrev pub few : Limits
 few = record { rows = 1; blocks = 1 }
 
--- a statement that isn't built prints that, and keeps the tables and the files
+-- a statement that isn't built prints that, and keeps the tables and the files; so does one that is refused
 abbrev pub StatementsStepped : Type 0
 StatementsStepped =
-    (step few one_table (Ok (statement.Drop (codes "t"))) ≡ refuse one_table refusal.NotBuilt)
-    × ((step few one_table (Ok (statement.Describe (codes "t")))).printed ≡ codes "refused: not built\n")
-    × ((step few one_table (Ok (statement.Describe (codes "t")))).state ≡ one_table)
+    (step few one_table (Ok (statement.Export (codes "t") (codes "f"))) ≡ refuse one_table refusal.NotBuilt)
+    × ((step few one_table (Ok (statement.Import (codes "u") (codes "f")))).printed ≡ codes "refused: not built\n")
+    × (step few one_table (Ok (statement.Load (codes "t") (codes "f"))) ≡ refuse one_table refusal.NoFile)
+    × (step few one_table (Ok (statement.Load (codes "u") (codes "f"))) ≡ refuse one_table (refusal.UnknownTable (codes "u")))
+    × ((step few one_table (Ok (statement.Drop (codes "u")))).printed ≡ codes "refused: unknown table u\n")
+    × ((step few one_table (Ok (statement.Drop (codes "t")))).state.tables ≡ [])
+    × ((step few one_table (Ok (statement.Drop (codes "t")))).printed ≡ codes "dropped t\n")
+
+-- a table of one column without rows, as it is described
+abbrev pub TablesDescribed : Type 0
+TablesDescribed =
+    ((step few (step few (record { tables = []; files = λ name. None }) (Ok (statement.Create (codes "u") (record { name = codes "a"; kind = kind.Int; key = true } ∷ [])))).state (Ok (statement.Describe (codes "u")))).printed
+    ≡ codes "table u rows 0 blocks 0\ncolumn a int classes 0 key\nrest 0\n")
 
 -- the refusal of a text
 abbrev pub TextsRefused : Type 0
@@ -30,7 +44,11 @@ TextsRefused =
 
 pub statements_stepped_lem : StatementsStepped
 unfolding step
-statements_stepped_lem = (refl, refl, refl)
+statements_stepped_lem = (refl, refl, refl, refl, refl, refl, refl)
+
+pub tables_described_lem : TablesDescribed
+unfolding step digits
+tables_described_lem = refl
 
 pub texts_refused_lem : TextsRefused
 unfolding step

@@ -5,6 +5,8 @@ pub mod Catalog
 pub mod Changes
 pub mod Examples
 pub mod Faults
+pub mod Layouts
+pub mod Lined
 pub mod Shown
 pub mod Sound
 pub mod Step

@@ -1,17 +1,16 @@
 -- Worked changes of tables, as facts that compute. Source: this project's own.
-use Rattle.std.specs.Prelude.{◌≡◌, ℕ, ◌+◌, pos, negsuc, true, false, List, [], ◌∷◌, map, codes, Some, None, Ok, Err, refl}
+use Rattle.std.specs.Prelude.{◌≡◌, ℕ, ◌+◌, pos, negsuc, true, false, List, [], ◌∷◌, map, codes, None, Ok, Err, refl}
 use Rattle.blink_lists.specs.Lists.{numbers_from}
 use Rattle.blink_base.specs.declared.value.Kind.TheVariants as kind
 use Rattle.blink_base.specs.declared.value.Value.TheVariants.{Int, Date}
 use Rattle.blink_base.specs.declared.schema.Schema.{Schema}
-use Rattle.blink_base.specs.declared.limits.Limits.{Limits}
 use Rattle.blink_base.specs.declared.refusal.Refusal.TheVariants as refusal
 use Rattle.blink_base.specs.Compared.{Row}
 use Rattle.star_sql.specs.declared.ast.ColumnDef.{ColumnDef}
 use Rattle.star_sql.specs.declared.ast.Literal.TheVariants.{Number}
 use Rattle.star_sql.specs.declared.ast.Literal.TheVariants as literal
 use Rattle.star_engine.specs.Catalog.{Tables}
-use Rattle.star_engine.specs.Changes.{created, dropped, added, reorganized, new_table, schema_of}
+use Rattle.star_engine.specs.Changes.{created, dropped, added, new_table, schema_of}
 use Rattle.star_engine.specs.Written.{written}
 
 -- columns of whole numbers

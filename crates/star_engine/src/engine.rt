@@ -142,6 +142,7 @@ impl<M: Ledger> Engine<M> {
         requires formed { IsTrue (is_well_formed (statement.Create name.now columns.now)) }
         ensures step { (tables : Tables) → IsEngineOf tables self.old → IsChange result (created tables name.now columns.now) self.new }
         ensures sound { HasTables self.new }
+        ensures limits { self.new.limits ≡ self.old.limits }
         ensures kept { OnErr result (self.new ≡ self.old) }
     {
         if self.place(name).is_some() {
@@ -168,6 +169,7 @@ impl<M: Ledger> Engine<M> {
         requires { HasTables self.old }
         ensures step { (tables : Tables) → IsEngineOf tables self.old → IsChange result (dropped tables name.now) self.new }
         ensures sound { HasTables self.new }
+        ensures limits { self.new.limits ≡ self.old.limits }
         ensures kept { OnErr result (self.new ≡ self.old) }
     {
         match self.place(name) {
@@ -192,6 +194,7 @@ impl<M: Ledger> Engine<M> {
         requires good { IsGood source }
         ensures step { (tables : Tables) → IsEngineOf tables self.old → IsAddition result (added self.old.limits anew tables name.now (batch_in source.entry)) self.new }
         ensures sound { HasTables self.new }
+        ensures limits { self.new.limits ≡ self.old.limits }
         ensures kept { OnErr result (self.new ≡ self.old) }
         ensures decodes { anew ≡ false → IsKeyless self.old name.now → decodes.new ≡ decodes.old }
     {
@@ -226,6 +229,7 @@ impl<M: Ledger> Engine<M> {
         requires { HasTables self.old }
         ensures step { (tables : Tables) → IsEngineOf tables self.old → IsAddition result (added self.old.limits true tables name.now (loaded bytes.now)) self.new }
         ensures sound { HasTables self.new }
+        ensures limits { self.new.limits ≡ self.old.limits }
         ensures kept { OnErr result (self.new ≡ self.old) }
     {
         self.add(alloc, name, Source::Text(bytes), true, decodes)
@@ -246,6 +250,7 @@ impl<M: Ledger> Engine<M> {
         requires { HasTables self.old }
         ensures step { (tables : Tables) → IsEngineOf tables self.old → IsAddition result (added self.old.limits false tables name.now (loaded bytes.now)) self.new }
         ensures sound { HasTables self.new }
+        ensures limits { self.new.limits ≡ self.old.limits }
         ensures kept { OnErr result (self.new ≡ self.old) }
         ensures decodes { IsKeyless self.old name.now → decodes.new ≡ decodes.old }
     {
@@ -272,6 +277,7 @@ impl<M: Ledger> Engine<M> {
         requires formed { IsTrue (is_well_formed (statement.Insert name.now rows.now)) }
         ensures step { (tables : Tables) → IsEngineOf tables self.old → IsAddition result (added self.old.limits false tables name.now (λ schema. written schema rows.now)) self.new }
         ensures sound { HasTables self.new }
+        ensures limits { self.new.limits ≡ self.old.limits }
         ensures kept { OnErr result (self.new ≡ self.old) }
         ensures decodes { IsKeyless self.old name.now → decodes.new ≡ decodes.old }
     {
@@ -291,6 +297,7 @@ impl<M: Ledger> Engine<M> {
         requires { HasTables self.old }
         ensures step { (tables : Tables) → IsEngineOf tables self.old → IsChange result (reorganized tables name.now) self.new }
         ensures sound { HasTables self.new }
+        ensures limits { self.new.limits ≡ self.old.limits }
         ensures kept { OnErr result (self.new ≡ self.old) }
     {
         match self.place(name) {

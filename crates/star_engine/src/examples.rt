@@ -1,12 +1,18 @@
 //! Worked steps, as facts that compute.
 
-ghost use Rattle.star_engine.specs.Examples.{StatementsStepped, TextsRefused};
+ghost use Rattle.star_engine.specs.Examples.{StatementsStepped, TablesDescribed, TextsRefused};
 ghost use Rattle.star_engine.specs.Worked.{CreatesTold, DropsTold, AddsTold, RowsWritten};
 
-/// A statement that isn't built is refused, and keeps the tables and the files.
+/// A statement that isn't built, or that is refused, keeps the tables and the files; a dropped table is gone.
 #[tactic(auto, using(crate::specs::Examples::statements_stepped_lem))]
 pub fn statements_stepped()
     ensures { StatementsStepped }
+{}
+
+/// A table that was made is described.
+#[tactic(auto, using(crate::specs::Examples::tables_described_lem))]
+pub fn tables_described()
+    ensures { TablesDescribed }
 {}
 
 /// The refusal of a text is printed.

@@ -1,8 +1,13 @@
-//! What a statement does to the tables and the files, and what it prints.
+//! The tables by name, and the statements that change them.
+//!
+//! An [`Engine`] keeps, for each table, its name and the image of its rows, and no list of the rows that it accepted. The
+//! definitions have that list: each call is the step of its statement on the tables with their lists, and keeps the images
+//! standing for them.
 #![tactic(auto)]
 
 mod batch;
 mod columns;
+mod describe;
 mod engine;
 pub mod examples;
 mod fault;
