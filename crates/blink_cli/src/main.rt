@@ -3,7 +3,7 @@
 
 ghost use Rattle.std.specs.Prelude.{◌≡◌, ◌⊎◌, IfErr};
 
-use blink_edge::{Shelf, StdIn, StdOut};
+use blink_edge::{Folder, StdIn, StdOut};
 use blink_run::{Status, run};
 use std::alloc::Global;
 use std::env;
@@ -34,7 +34,7 @@ fn words<R: Env + AllocGlobal>(rt: &R) -> Result<Vec<String>, u8>
     Ok(words)
 }
 
-// Runs the program over standard input, standard output and an empty store, since no form of words asks a store as yet.
+// Runs the program over standard input, standard output and the files of the system, from the current folder.
 fn main(rt: HostRuntime) -> ExitCode {
     let words = match words(&rt) {
         Ok(words) => words,
@@ -43,7 +43,7 @@ fn main(rt: HostRuntime) -> ExitCode {
     let alloc: Global = rt.alloc();
     let mut input = StdIn::new(rt.reader());
     let mut output = StdOut::new(io::writer(&rt));
-    let mut store = Shelf::new(alloc, Vec::new(alloc));
+    let mut store = Folder::new(&rt);
     let status = run(alloc, words.as_slice(), &mut input, &mut output, &mut store);
     ExitCode::from(status.code())
 }

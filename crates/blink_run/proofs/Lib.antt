@@ -1,9 +1,14 @@
-pub mod Saying
+pub mod Allowed
 pub mod Answering
+pub mod Asking
 pub mod Ending
+pub mod Fetching
 pub mod Giving
+pub mod Going
 pub mod LimitsOf
 pub mod Outcomes
-pub mod Steps
+pub mod Replying
+pub mod Saying
+pub mod Stating
 pub mod Telling
 pub mod Within

@@ -1,5 +1,5 @@
 -- How a run ends. Source: this project's own.
-use Rattle.std.specs.Prelude.{◌≡◌, ◌<◌, ◌≤◌, ◌+◌, ◌⊎◌, ℕ, List, [], ◌∷◌, ◌++◌, length, take, Option, Some, None}
+use Rattle.std.specs.Prelude.{◌≡◌, ◌<◌, ◌≤◌, ◌+◌, ◌⊎◌, ℕ, Bool, true, is_some, List, [], ◌∷◌, ◌++◌, length, take, Option, Some, None}
 use Rattle.std.specs.List.{concat}
 use Rattle.std.specs.FinMap.{get}
 use Rattle.std.specs.Io.KnownBytes.{Appends, Consumes, IsAtEnd, Keeps}
@@ -9,7 +9,7 @@ use Rattle.report_text.specs.Texts.{Bytes, usage_bytes}
 use Rattle.blink_loader.specs.Range.{longest_input}
 use Rattle.star_engine.specs.Catalog.{Files}
 use Rattle.star_engine.specs.Step.{Outcome}
-use Rattle.blink_run.specs.Script.{ScriptBegins, outputs_of}
+use Rattle.blink_run.specs.Script.{ScriptBegins, ScriptAsks, outputs_of}
 use Rattle.blink_run.specs.Program.{Asked, to_run, to_count, nothing_known, Told, Tells, count_told, status_of}
 use Rattle.blink_run.specs.declared.status.Status.{Status}
 use Rattle.blink_run.specs.declared.status.Status.TheVariants as status
@@ -47,6 +47,24 @@ abbrev pub AreFiles : Option store.Files → Files → Type 0
 AreFiles None files = Unit {0}
 AreFiles (Some held) files = (name : Bytes) → files name ≡ get held name
 
+-- these are the files that a store tells, where a script is asked for; nothing else asks the store
+abbrev pub AreKnown : Asked → Option store.Files → Files → Type 0
+AreKnown (to_run limits) held files = (is_some held ≡ true) × AreFiles held files
+AreKnown (to_count column low high) held files = AreFiles held files
+AreKnown nothing_known held files = AreFiles held files
+
+-- the words ask for no script, so no statement asks the store
+abbrev pub AsksNothing : Asked → Type 0
+AsksNothing (to_run limits) = ⊥
+AsksNothing (to_count column low high) = Unit {0}
+AsksNothing nothing_known = Unit {0}
+
+-- a store that may have been asked keeps the files that it tells, its count of faults does not fall, and stays where no call fails
+pub record IsAsked {S : Type 0} (files : S → Option store.Files) (faults : S → ℕ) (never_fails : S → Type 0) (old new : S) : Type 0 where
+  pub kept : files new ≡ files old
+  pub later : faults old ≤ faults new
+  pub sure : never_fails old → never_fails new × (faults new ≡ faults old)
+
 -- the words are in a form that reads the input
 abbrev pub ReadsInput : Asked → Type 0
 ReadsInput (to_run limits) = Unit {0}
@@ -68,42 +86,49 @@ abbrev pub TakesAtMost : ℕ → Shown → Shown → Type 0
 TakesAtMost most old new = (taken : Bytes) × Consumes old.bytes new.bytes taken × (length taken ≤ most)
 
 -- all that is told was given, and the status is its
-abbrev pub AllGiven : Asked → Files → Bytes → Shown → Shown → Status → Type 0
-AllGiven asked files input old new answer = (told : Told) × Tells asked files input told × Appends old.bytes new.bytes told.printed × (answer ≡ status_of asked told)
+abbrev pub AllGiven : Asked → Bool → Files → Bytes → Shown → Shown → Status → Type 0
+AllGiven asked stay files input old new answer = (told : Told) × Tells asked stay files input told × Appends old.bytes new.bytes told.printed × (answer ≡ status_of asked told)
 
 -- an output was given up to a proper prefix of it, behind what was given before
 abbrev pub GivesPart : Shown → Shown → Bytes → Bytes → Type 0
 GivesPart old new before output = (k : ℕ) × (k < length output) × Appends old.bytes new.bytes (before ++ take k output)
 
 -- the outputs of some first statements were given, and a proper prefix of the next one's; a count and words in no form have one output
-abbrev pub PartGiven : Asked → Files → Bytes → Shown → Shown → Type 0
-PartGiven (to_run limits) files input old new = (outcomes : List Outcome) × (next : Outcome)
-    × ScriptBegins limits files input (outcomes ++ next ∷ []) × GivesPart old new (concat (outputs_of outcomes)) next.printed
-PartGiven (to_count column low high) files input old new = GivesPart old new [] (count_told column low high input).printed
-PartGiven nothing_known files input old new = GivesPart old new [] usage_bytes
+abbrev pub PartGiven : Asked → Bool → Files → Bytes → Shown → Shown → Type 0
+PartGiven (to_run limits) stay files input old new = (outcomes : List Outcome) × (next : Outcome)
+    × ScriptBegins limits stay files input (outcomes ++ next ∷ []) × GivesPart old new (concat (outputs_of outcomes)) next.printed
+PartGiven (to_count column low high) stay files input old new = GivesPart old new [] (count_told column low high input).printed
+PartGiven nothing_known stay files input old new = GivesPart old new [] usage_bytes
 
 -- the outputs of some first statements were given whole; a count gave nothing
-abbrev pub FirstGiven : Asked → Files → Bytes → Shown → Shown → Type 0
-FirstGiven (to_run limits) files input old new = (outcomes : List Outcome)
-    × ScriptBegins limits files input outcomes × Appends old.bytes new.bytes (concat (outputs_of outcomes))
-FirstGiven (to_count column low high) files input old new = Keeps old.bytes new.bytes
-FirstGiven nothing_known files input old new = ⊥
+abbrev pub FirstGiven : Asked → Bool → Files → Bytes → Shown → Shown → Type 0
+FirstGiven (to_run limits) stay files input old new = (outcomes : List Outcome)
+    × ScriptBegins limits stay files input outcomes × Appends old.bytes new.bytes (concat (outputs_of outcomes))
+FirstGiven (to_count column low high) stay files input old new = Keeps old.bytes new.bytes
+FirstGiven nothing_known stay files input old new = ⊥
+
+-- the outputs of some first statements were given whole, and the next statement asks the store; only a script has statements
+abbrev pub AskedGiven : Asked → Bool → Files → Bytes → Shown → Shown → Type 0
+AskedGiven (to_run limits) stay files input old new = (outcomes : List Outcome)
+    × ScriptAsks limits stay files input outcomes × Appends old.bytes new.bytes (concat (outputs_of outcomes))
+AskedGiven (to_count column low high) stay files input old new = ⊥
+AskedGiven nothing_known stay files input old new = ⊥
 
 -- what was given where the input was read, and the run then ended with a status
-abbrev pub Gives : Asked → Files → Bytes → Shown → Shown → Status → Type 0
-Gives asked files input old new status.Done = AllGiven asked files input old new status.Done
-Gives asked files input old new status.Refused = AllGiven asked files input old new status.Refused
-Gives asked files input old new status.Usage = AllGiven asked files input old new status.Usage
-Gives asked files input old new status.ReadFault = ⊥
-Gives asked files input old new status.WriteFault = Rose old.faults new.faults × PartGiven asked files input old new
-Gives asked files input old new status.Memory = FirstGiven asked files input old new
-Gives asked files input old new status.StoreFault = ⊥
-Gives asked files input old new status.Long = ⊥
+abbrev pub Gives : Asked → Bool → Files → Bytes → Shown → Shown → Status → Type 0
+Gives asked stay files input old new status.Done = AllGiven asked stay files input old new status.Done
+Gives asked stay files input old new status.Refused = AllGiven asked stay files input old new status.Refused
+Gives asked stay files input old new status.Usage = AllGiven asked stay files input old new status.Usage
+Gives asked stay files input old new status.ReadFault = ⊥
+Gives asked stay files input old new status.WriteFault = Rose old.faults new.faults × PartGiven asked stay files input old new
+Gives asked stay files input old new status.Memory = FirstGiven asked stay files input old new
+Gives asked stay files input old new status.StoreFault = AskedGiven asked stay files input old new
+Gives asked stay files input old new status.Long = ⊥
 
 -- the input was read, the files are the store's, and this was given
 abbrev pub IsAnswered : Asked → Outside → Outside → Status → Type 0
 IsAnswered asked old new answer = (input : Bytes) × (files : Files) × IsRead asked old.source new.source input
-    × AreFiles old.store.files files × Gives asked files input old.sink new.sink answer
+    × AreFiles old.store.files files × Gives asked (is_some old.store.files) files input old.sink new.sink answer
 
 -- nothing was given, and at most so many bytes were taken
 abbrev pub NothingGiven : Asked → ℕ → Outside → Outside → Type 0
@@ -117,7 +142,7 @@ Ends asked old new status.Usage = IsAnswered asked old new status.Usage
 Ends asked old new status.ReadFault = Rose old.source.faults new.source.faults × NothingGiven asked longest_input old new
 Ends asked old new status.WriteFault = IsAnswered asked old new status.WriteFault
 Ends asked old new status.Memory = NothingGiven asked (longest_input + 1) old new ⊎ IsAnswered asked old new status.Memory
-Ends asked old new status.StoreFault = ⊥
+Ends asked old new status.StoreFault = Rose old.store.faults new.store.faults × IsAnswered asked old new status.StoreFault
 Ends asked old new status.Long = ReadsInput asked × Keeps old.sink.bytes new.sink.bytes
     × (taken : Bytes) × Consumes old.source.bytes new.source.bytes taken × (length taken ≡ longest_input + 1)
 
@@ -138,6 +163,7 @@ IsInputThere old new = (input : Bytes) × (old.bytes ≡ Some input) × (length 
 
 -- where no count of faults rose and the input isn't too long, a run is answered, but for want of memory; words in no form need none
 abbrev pub IsComplete : Asked → Outside → Outside → Status → Type 0
-IsComplete (to_run limits) old new answer = IsInputThere old.source new.source → ¬ (Rose old.sink.faults new.sink.faults) → IsAnswerOrMemory answer
+IsComplete (to_run limits) old new answer =
+    IsInputThere old.source new.source → ¬ (Rose old.sink.faults new.sink.faults) → ¬ (Rose old.store.faults new.store.faults) → IsAnswerOrMemory answer
 IsComplete (to_count column low high) old new answer = IsInputThere old.source new.source → ¬ (Rose old.sink.faults new.sink.faults) → IsAnswerOrMemory answer
 IsComplete nothing_known old new answer = ¬ (Rose old.sink.faults new.sink.faults) → answer ≡ status.Usage

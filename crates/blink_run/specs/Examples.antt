@@ -1,8 +1,11 @@
 -- Worked runs, as facts that compute. Source: this project's own.
-use Rattle.std.specs.Prelude.{◌≡◌, pos, negsuc, [], ◌∷◌, ◌++◌, replicate, codes, true, false, None, Ok, Err, refl}
+use Rattle.std.specs.Prelude.{◌≡◌, ℕ, pos, negsuc, [], ◌∷◌, ◌++◌, replicate, codes, true, false, None, Ok, Err, refl}
 use Rattle.std.specs.Fmt.{digits}
 use Rattle.blink_loader.specs.Records.{next_record, records_from, strip_bom}
 use Rattle.blink_base.specs.declared.refusal.Refusal.TheVariants as refusal
+use Rattle.blink_base.specs.declared.value.Kind.TheVariants as kind
+use Rattle.star_sql.specs.declared.ast.Literal.{Literal}
+use Rattle.star_sql.specs.declared.ast.Literal.TheVariants as literal
 use Rattle.star_sql.specs.declared.ast.Statement.{Statement}
 use Rattle.star_sql.specs.declared.ast.Statement.TheVariants as statement
 use Rattle.star_sql.specs.declared.ast.What.TheVariants as what
@@ -39,6 +42,10 @@ BytesTold =
     × (count_told (codes "a") (pos 2) (pos 5) (codes "a\nx\n") ≡ record { printed = codes "refused: bad value 1 1\n"; refused = true })
     × (count_told (codes "a") (pos 1) (pos 1) (codes "a,b\n1,1\n1\n") ≡ record { printed = codes "refused: arity 2\n"; refused = true })
 
+-- a number as it is written
+abbrev pub number_of : ℕ → Literal
+number_of n = literal.Number false (pos n)
+
 -- no files
 abbrev pub no_files : Files
 no_files name = None
@@ -46,8 +53,8 @@ no_files name = None
 -- pieces without a token print nothing: an empty script, and semicolons, white space and a comment
 abbrev pub NothingSaid : Type 0
 NothingSaid =
-    Tells (to_run standard_limits) no_files [] (record { printed = []; refused = false })
-    × Tells (to_run standard_limits) no_files (codes ";; -- ';\n") (record { printed = []; refused = false })
+    Tells (to_run standard_limits) true no_files [] (record { printed = []; refused = false })
+    × Tells (to_run standard_limits) true no_files (codes ";; -- ';\n") (record { printed = []; refused = false })
 
 -- SELECT a FROM t
 abbrev pub select_a : Statement
@@ -63,8 +70,22 @@ select_a = statement.Select (record {
 -- each statement is refused on its line, in their order; the last piece needs no semicolon
 abbrev pub ScriptAnswered : Type 0
 ScriptAnswered =
-    Tells (to_run standard_limits) no_files (codes "SELECT a FROM t; ; DROP TABLE t")
-    (record { printed = codes "refused: not built\nrefused: not built\n"; refused = true })
+    Tells (to_run standard_limits) true no_files (codes "SELECT a FROM t; ; DROP TABLE t")
+    (record { printed = codes "refused: not built\nrefused: unknown table t\n"; refused = true })
+
+-- one column of whole numbers
+abbrev pub create_t : Statement
+create_t = statement.Create (codes "t") (record { name = codes "a"; kind = kind.Int; key = false } ∷ [])
+
+-- three rows
+abbrev pub insert_three : Statement
+insert_three = statement.Insert (codes "t") ((number_of 3 ∷ []) ∷ (number_of 1 ∷ []) ∷ (number_of 3 ∷ []) ∷ [])
+
+-- a table is made, filled and described; a file that isn't there changes nothing, and the table is dropped
+abbrev pub TablesTold : Type 0
+TablesTold =
+    Tells (to_run standard_limits) true no_files (codes "CREATE TABLE t (a INT); INSERT INTO t VALUES (3),(1),(3); LOAD INTO t FROM 'f'; DESCRIBE t; DROP TABLE t;")
+    (record { printed = codes "created t\nadded 3\nrefused: no file\ntable t rows 3 blocks 0\ncolumn a int classes 0\nrest 3\ndropped t\n"; refused = true })
 
 -- 16 digits, 33 open parentheses, a statement, and an open text
 abbrev pub refused_script : Bytes
@@ -73,8 +94,8 @@ refused_script = codes "SELECT 1000000000000000 (; ?" ++ replicate 33 40 ++ code
 -- the first place at fault goes before the depth, and the depth before the spelling
 abbrev pub TextsRefused : Type 0
 TextsRefused =
-    Tells (to_run standard_limits) no_files refused_script
-    (record { printed = codes "refused: number too long\nrefused: syntax\nrefused: too deep\nrefused: not built\nrefused: syntax\n"; refused = true })
+    Tells (to_run standard_limits) true no_files refused_script
+    (record { printed = codes "refused: number too long\nrefused: syntax\nrefused: too deep\nrefused: unknown table t\nrefused: syntax\n"; refused = true })
 
 pub words_asked_lem : WordsAsked
 words_asked_lem = (refl, refl, refl, refl, refl, refl, refl, refl, refl, refl, refl, refl, refl, refl)
@@ -93,9 +114,22 @@ pub script_answered_lem : ScriptAnswered
 unfolding step
 script_answered_lem = (
   _,
-  steps _ _ (Ok select_a) _ _ refl (record { formed = refl; spelled = refl })
+  steps _ _ _ (Ok select_a) _ _ refl (record { formed = refl; spelled = refl }) refl
       (passes _ _ _ _ refl
-      (steps _ _ (Ok (statement.Drop (codes "t"))) _ _ refl (record { formed = refl; spelled = refl }) (ends _))),
+      (steps _ _ _ (Ok (statement.Drop (codes "t"))) _ _ refl (record { formed = refl; spelled = refl }) refl (ends _))),
+  refl,
+)
+
+pub tables_told_lem : TablesTold
+unfolding step digits
+tables_told_lem = (
+  _,
+  steps _ _ _ (Ok create_t) _ _ refl (record { formed = refl; spelled = refl }) refl
+      (steps _ _ _ (Ok insert_three) _ _ refl (record { formed = refl; spelled = refl }) refl
+      (steps _ _ _ (Ok (statement.Load (codes "t") (codes "f"))) _ _ refl (record { formed = refl; spelled = refl }) refl
+      (steps _ _ _ (Ok (statement.Describe (codes "t"))) _ _ refl (record { formed = refl; spelled = refl }) refl
+      (steps _ _ _ (Ok (statement.Drop (codes "t"))) _ _ refl (record { formed = refl; spelled = refl }) refl
+      (passes _ _ _ _ refl (ends _)))))),
   refl,
 )
 
@@ -103,10 +137,10 @@ pub texts_refused_lem : TextsRefused
 unfolding step
 texts_refused_lem = (
   _,
-  steps _ _ (Err refusal.NumberTooLong) _ _ refl refl
-      (steps _ _ (Err refusal.Syntax) _ _ refl refl
-      (steps _ _ (Err refusal.TooDeep) _ _ refl refl
-      (steps _ _ (Ok (statement.Drop (codes "t"))) _ _ refl (record { formed = refl; spelled = refl })
-      (steps _ _ (Err refusal.Syntax) _ _ refl refl (ends _))))),
+  steps _ _ _ (Err refusal.NumberTooLong) _ _ refl refl refl
+      (steps _ _ _ (Err refusal.Syntax) _ _ refl refl refl
+      (steps _ _ _ (Err refusal.TooDeep) _ _ refl refl refl
+      (steps _ _ _ (Ok (statement.Drop (codes "t"))) _ _ refl (record { formed = refl; spelled = refl }) refl
+      (steps _ _ _ (Err refusal.Syntax) _ _ refl refl refl (ends _))))),
   refl,
 )

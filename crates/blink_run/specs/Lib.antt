@@ -3,6 +3,7 @@ pub mod Examples
 pub mod Options
 pub mod Places
 pub mod Program
+pub mod Replies
 pub mod Running
 pub mod Script
 pub mod Statuses

@@ -72,11 +72,11 @@ told_count column (Err why) = record { printed = refusal_bytes (range_refusal co
 abbrev pub count_told : Bytes → ℤ → ℤ → Bytes → Told
 count_told column low high input = told_count column (range_of input column low high)
 
--- what the program tells for what is asked, over an input and files
-abbrev pub Tells : Asked → Files → Bytes → Told → Type 0
-Tells (to_run limits) files input told = (outcomes : List Outcome) × ScriptRuns limits files input outcomes × (told ≡ told_script outcomes)
-Tells (to_count column low high) files input told = told ≡ count_told column low high input
-Tells nothing_known files input told = told ≡ record { printed = usage_bytes; refused = false }
+-- what the program tells for what is asked, over an input and files, which stay where the store tells them
+abbrev pub Tells : Asked → Bool → Files → Bytes → Told → Type 0
+Tells (to_run limits) stay files input told = (outcomes : List Outcome) × ScriptRuns limits stay files input outcomes × (told ≡ told_script outcomes)
+Tells (to_count column low high) stay files input told = told ≡ count_told column low high input
+Tells nothing_known stay files input told = told ≡ record { printed = usage_bytes; refused = false }
 
 -- the status of a run that came to its end
 abbrev pub status_of : Asked → Told → Status

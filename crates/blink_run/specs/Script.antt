@@ -5,37 +5,42 @@ use Rattle.blink_base.specs.declared.limits.Limits.{Limits}
 use Rattle.star_lex.specs.Pieces.{piece_texts}
 use Rattle.star_sql.specs.Saying.{Said, Says, is_passed_over}
 use Rattle.star_engine.specs.Catalog.{Files, State}
-use Rattle.star_engine.specs.Step.{Outcome, step}
+use Rattle.star_engine.specs.Step.{Outcome, step, piece_asks_store}
 use Rattle.report_text.specs.Texts.{Bytes}
 
 -- before the first statement: no tables, and the given files
 abbrev pub start : Files → State
 start files = record { tables = []; files = files }
 
--- The outcomes of pieces, from a state: a piece without a token or a fault is passed over; every other is one statement, whose outcome is the step of what it says.
-pub data Runs (limits : Limits) : State → List Bytes → List Outcome → Type 0 where
-  ends : (state : State) → Runs limits state [] []
+-- what a statement finds where the store tells its files: what was left; a store that tells none may hold other files by then
+abbrev pub Finds : Bool → State → State → Type 0
+Finds true left found = found ≡ left
+Finds false left found = found.tables ≡ left.tables
+
+-- The outcomes of pieces, from a state: a piece without a token or a fault is passed over; every other is one statement, whose outcome is the step of what it says, from what it finds.
+pub data Runs (limits : Limits) (stay : Bool) : State → List Bytes → List Outcome → Type 0 where
+  ends : (state : State) → Runs limits stay state [] []
   passes : (state : State) (text : Bytes) (texts : List Bytes) (outcomes : List Outcome)
-      → is_passed_over text ≡ true → Runs limits state texts outcomes → Runs limits state (text ∷ texts) outcomes
-  steps : (state : State) (text : Bytes) (said : Said) (texts : List Bytes) (outcomes : List Outcome)
-      → is_passed_over text ≡ false → Says text said
-      → Runs limits (step limits state said).state texts outcomes
-      → Runs limits state (text ∷ texts) (step limits state said ∷ outcomes)
+      → is_passed_over text ≡ true → Runs limits stay state texts outcomes → Runs limits stay state (text ∷ texts) outcomes
+  steps : (state found : State) (text : Bytes) (said : Said) (texts : List Bytes) (outcomes : List Outcome)
+      → is_passed_over text ≡ false → Says text said → Finds stay state found
+      → Runs limits stay (step limits found said).state texts outcomes
+      → Runs limits stay state (text ∷ texts) (step limits found said ∷ outcomes)
 
 -- the outcomes of a script: those of its pieces, from no tables and the given files
-abbrev pub ScriptRuns : Limits → Files → Bytes → List Outcome → Type 0
-ScriptRuns limits files script outcomes = Runs limits (start files) (piece_texts script) outcomes
+abbrev pub ScriptRuns : Limits → Bool → Files → Bytes → List Outcome → Type 0
+ScriptRuns limits stay files script outcomes = Runs limits stay (start files) (piece_texts script) outcomes
 
 -- the outcomes of some first pieces
-pub record Begins (limits : Limits) (state : State) (texts : List Bytes) (outcomes : List Outcome) : Type 0 where
+pub record Begins (limits : Limits) (stay : Bool) (state : State) (texts : List Bytes) (outcomes : List Outcome) : Type 0 where
   pub done : List Bytes
   pub left : List Bytes
   pub parts : texts ≡ done ++ left
-  pub runs : Runs limits state done outcomes
+  pub runs : Runs limits stay state done outcomes
 
 -- the outcomes of some first pieces of a script
-abbrev pub ScriptBegins : Limits → Files → Bytes → List Outcome → Type 0
-ScriptBegins limits files script outcomes = Begins limits (start files) (piece_texts script) outcomes
+abbrev pub ScriptBegins : Limits → Bool → Files → Bytes → List Outcome → Type 0
+ScriptBegins limits stay files script outcomes = Begins limits stay (start files) (piece_texts script) outcomes
 
 -- one output per statement
 abbrev pub outputs_of : List Outcome → List Bytes
@@ -50,6 +55,22 @@ abbrev pub left_by : State → List Outcome → State
 left_by state [] = state
 left_by state (o ∷ outcomes) = left_by o.state outcomes
 
--- The law that a script has one list of outcomes.
+-- the outcomes of some first pieces; the next one is a statement that asks the store
+pub record Asks (limits : Limits) (stay : Bool) (state : State) (texts : List Bytes) (outcomes : List Outcome) : Type 0 where
+  pub done : List Bytes
+  pub text : Bytes
+  pub left : List Bytes
+  pub said : Said
+  pub parts : texts ≡ done ++ text ∷ left
+  pub runs : Runs limits stay state done outcomes
+  pub kept : is_passed_over text ≡ false
+  pub says : Says text said
+  pub asks : piece_asks_store (left_by state outcomes).tables said ≡ true
+
+-- the same of the pieces of a script
+abbrev pub ScriptAsks : Limits → Bool → Files → Bytes → List Outcome → Type 0
+ScriptAsks limits stay files script outcomes = Asks limits stay (start files) (piece_texts script) outcomes
+
+-- The law that a script over a store that tells its files has one list of outcomes.
 abbrev pub RunsOneWay : Type 0
-RunsOneWay = (limits : Limits) (files : Files) (script : Bytes) (x y : List Outcome) → ScriptRuns limits files script x → ScriptRuns limits files script y → x ≡ y
+RunsOneWay = (limits : Limits) (files : Files) (script : Bytes) (x y : List Outcome) → ScriptRuns limits true files script x → ScriptRuns limits true files script y → x ≡ y

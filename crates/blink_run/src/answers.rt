@@ -1,18 +1,28 @@
 // What a piece of a script says, and what is answered to it.
-ghost use Rattle.std.specs.Prelude.{◌≡◌, ◌≤◌, true, false, length, IfOk, IfSome, IfNone};
+ghost use Rattle.std.specs.Prelude.{◌≡◌, ◌≤◌, true, false, length, is_some, Err, Ok, IfOk, IfSome, IfNone, IsTrue};
 ghost use Rattle.blink_base.specs.Words.{longest_script};
+ghost use Rattle.blink_base.specs.declared.limits.Limits.{Limits as Bounds};
+ghost use Rattle.blink_edge.specs.Causes.{Rose};
 ghost use Rattle.star_sql.specs.Saying.{Says, is_passed_over};
-ghost use Rattle.report_text.specs.Texts.{refusal_bytes};
+ghost use Rattle.star_sql.specs.WellFormed.{is_well_formed};
+ghost use Rattle.star_sql.specs.declared.ast.Statement.{Statement as Stated};
 ghost use Rattle.star_engine.specs.Catalog.{State};
-ghost use Rattle.star_engine.specs.Step.{step};
-ghost use Rattle.blink_run.specs.Running.{IsStep};
+ghost use Rattle.star_engine.specs.Shown.{HasTables, IsEngineOf};
+ghost use Rattle.blink_run.specs.Ends.{AreFiles, IsAsked};
+ghost use Rattle.blink_run.specs.Replies.{IsSaidFrom, IsPieceAnswer};
+ghost use Rattle.blink_run.specs.Running.{Stands};
 
+use crate::printed::refused;
+use crate::statements::answer_statement;
+use crate::stop::Stop;
 use crate::told::Told;
-use blink_base::{Limits, Refusal};
-use report_text::refusal_text;
+use blink_base::Refusal;
+use blink_edge::Store;
+use star_engine::Engine;
 use star_lex::{LexFault, tokens};
 use star_sql::{ParseFault, Statement, parse};
 use std::alloc::{AllocError, Global};
+use word_pool::{Ledger, Steps};
 
 // A statement, or the refusal of a text.
 type Said = Result<Statement, Refusal>;
@@ -42,41 +52,50 @@ fn said_by(alloc: Global, text: &[u8]) -> Result<Option<Said>, AllocError>
     }
 }
 
-// The line of a refusal.
-fn refused(alloc: Global, why: &Refusal) -> Result<Told, AllocError>
-    ensures line { IfOk result (λ told. told.line ≡ refusal_bytes why.now) }
-    ensures refused { IfOk result (λ told. told.refused ≡ true) }
-{
-    Ok(Told {
-        line: refusal_text(alloc, why)?,
-        refused: true,
-    })
-}
-
-// The line of what a piece says. No statement is built as yet, so none asks the limits or changes the state.
-#[tactic(auto, using(crate::proofs::Steps::step_by_line))]
-fn answer_to(alloc: Global, limits: Limits, said: &Said) -> Result<Told, AllocError>
-    ensures { IfOk result (λ told. (state : State)
-        → step limits state said.now ≡ record { state = state; printed = told.line; refused = told.refused }) }
+// The line of what a piece says.
+fn answer_said<M: Ledger, S: Store>(
+    alloc: Global,
+    engine: &mut Engine<M>,
+    store: &mut S,
+    said: &Said,
+    decodes: &mut Steps<M>,
+) -> Result<Told, Stop>
+    requires sound { HasTables engine.old }
+    requires formed { (s : Stated) → said.now ≡ Ok s → IsTrue (is_well_formed s) }
+    ensures reply { (state : State) → IsEngineOf state.tables engine.old → AreFiles (S.files store.old) state.files
+        → IsSaidFrom engine.old.limits (S.files store.old) (is_some (S.files store.old)) state said.now result engine.new }
+    ensures sound { HasTables engine.new }
+    ensures limits { engine.new.limits ≡ engine.old.limits }
+    ensures store { IsAsked S.files S.faults S.never_fails store.old store.new }
+    ensures rose { result ≡ Err Stop.Store → Rose (S.faults store.old) (S.faults store.new) }
 {
     match said {
-        Ok(_) => refused(alloc, &Refusal::NotBuilt),
+        Ok(statement) => answer_statement(alloc, engine, store, statement, decodes),
         Err(why) => refused(alloc, why),
     }
 }
 
 // The line that a piece prints, where it isn't passed over.
-pub(crate) fn answer_by(
+pub(crate) fn answer_by<M: Ledger, S: Store>(
     alloc: Global,
-    limits: Limits,
+    engine: &mut Engine<M>,
+    store: &mut S,
     text: &[u8],
-) -> Result<Option<Told>, AllocError>
-    requires { length text.now ≤ longest_script }
-    ensures passed { IfOk result (λ told. IfNone told (is_passed_over text.now ≡ true)) }
-    ensures steps { IfOk result (λ told. IfSome told (λ t. IsStep limits text.now t.line t.refused)) }
+    decodes: &mut Steps<M>,
+) -> Result<Option<Told>, Stop>
+    requires short { length text.now ≤ longest_script }
+    requires sound { HasTables engine.old }
+    ensures answer { (limits : Bounds) (state : State) → Stands limits (S.files store.old) state engine.old
+        → IsPieceAnswer limits (S.files store.old) (is_some (S.files store.old)) state text.now result engine.new }
+    ensures sound { HasTables engine.new }
+    ensures store { IsAsked S.files S.faults S.never_fails store.old store.new }
+    ensures rose { result ≡ Err Stop.Store → Rose (S.faults store.old) (S.faults store.new) }
 {
     match said_by(alloc, text)? {
         None => Ok(None),
-        Some(said) => Ok(Some(answer_to(alloc, limits, &said)?)),
+        Some(said) => match answer_said(alloc, engine, store, &said, decodes) {
+            Ok(told) => Ok(Some(told)),
+            Err(why) => Err(why),
+        },
     }
 }

@@ -1,5 +1,5 @@
 // The count of a column between two bounds.
-ghost use Rattle.std.specs.Prelude.{◌≡◌, ◌≤◌, length, true, false, IfOk};
+ghost use Rattle.std.specs.Prelude.{◌≡◌, ◌≤◌, Bool, length, true, false, IfOk};
 ghost use Rattle.std.specs.Str.{str_to_ascii_lowercase};
 ghost use Rattle.blink_base.specs.declared.refusal.Refusal.TheVariants.{UnknownColumn};
 ghost use Rattle.blink_loader.specs.Range.{longest_input};
@@ -65,7 +65,7 @@ pub(crate) fn answer_count<W: Sink>(
     output: &mut W,
 ) -> Status
     requires { length input.now ≤ longest_input }
-    ensures ends { (files : Files) → Gives (asked_of (Count bounds.entry)) files input.now
+    ensures ends { (stay : Bool) (files : Files) → Gives (asked_of (Count bounds.entry)) stay files input.now
         (stream_view W.given W.faults output.old) (stream_view W.given W.faults output.new) result }
     ensures later { W.faults output.old ≤ W.faults output.new }
     ensures sure { length (count_told bounds.entry.column.now bounds.entry.low bounds.entry.high input.now).printed ≤ W.sure_room output.old

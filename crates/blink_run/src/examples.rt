@@ -1,6 +1,6 @@
 //! Worked runs, as facts that compute.
 
-ghost use Rattle.blink_run.specs.Examples.{BytesTold, NothingSaid, ScriptAnswered, TextsRefused, WordsAsked};
+ghost use Rattle.blink_run.specs.Examples.{BytesTold, NothingSaid, ScriptAnswered, TablesTold, TextsRefused, WordsAsked};
 
 /// The words of the command line.
 #[tactic(auto, using(crate::specs::Examples::words_asked_lem))]
@@ -24,6 +24,12 @@ pub fn nothing_said()
 #[tactic(auto, using(crate::specs::Examples::script_answered_lem))]
 pub fn script_answered()
     ensures { ScriptAnswered }
+{}
+
+/// A table that is made, filled, described and dropped.
+#[tactic(auto, using(crate::specs::Examples::tables_told_lem))]
+pub fn tables_told()
+    ensures { TablesTold }
 {}
 
 /// Pieces whose texts are refused, each on its line.

@@ -2,8 +2,11 @@
 
 ghost use Rattle.blink_run.specs.Script.{RunsOneWay};
 
-/// A script has one list of outcomes, whatever its statements say.
-#[tactic(auto, using(crate::proofs::Outcomes::runs_one_way))]
+use star_sql::one_spelling;
+
+/// A script over a store that tells its files has one list of outcomes.
 pub fn one_way_to_run()
     ensures { RunsOneWay }
-{}
+{
+    one_spelling();
+}

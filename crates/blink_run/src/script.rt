@@ -1,41 +1,64 @@
 // The answers to a script.
-ghost use Rattle.std.specs.Prelude.{◌≡◌, ◌≤◌, List, length};
+ghost use Rattle.std.specs.Prelude.{◌≡◌, ◌≤◌, List, length, is_some};
 ghost use Rattle.blink_base.specs.Words.{longest_script};
+ghost use Rattle.blink_edge.specs.Causes.{Rose};
 ghost use Rattle.star_engine.specs.Catalog.{Files};
+ghost use Rattle.star_engine.specs.Sound.{AreLimits};
 ghost use Rattle.star_engine.specs.Step.{Outcome};
 ghost use Rattle.blink_run.specs.Script.{ScriptRuns};
 ghost use Rattle.blink_run.specs.Program.{to_run, told_script};
-ghost use Rattle.blink_run.specs.Ends.{Gives, stream_view};
+ghost use Rattle.blink_run.specs.Ends.{AreFiles, AreKnown, Gives, IsAsked, stream_view};
 
 use crate::Status;
-use crate::pieces::{Stop, answer_pieces};
+use crate::pieces::answer_pieces;
+use crate::stop::Stop;
 use blink_base::Limits;
-use blink_edge::Sink;
+use blink_edge::{Sink, Store};
+use star_engine::Engine;
 use star_lex::pieces;
+use star_sql::one_spelling;
 use std::alloc::{AllocError, Global};
+use word_pool::{Ledger, Steps};
 
-// Answers a script, statement by statement.
-pub(crate) fn answer_script<W: Sink>(
+// Answers a script, statement by statement, from no tables.
+pub(crate) fn answer_script<M: Ledger, W: Sink, S: Store>(
     alloc: Global,
     limits: Limits,
     script: &[u8],
     output: &mut W,
+    store: &mut S,
+    decodes: &mut Steps<M>,
 ) -> Status
-    requires { length script.now ≤ longest_script }
-    ensures ends { (files : Files) → Gives (to_run limits) files script.now
+    requires short { length script.now ≤ longest_script }
+    requires limits { AreLimits limits }
+    ensures ends { (files : Files) → AreFiles (S.files store.old) files → Gives (to_run limits) (is_some (S.files store.old)) files script.now
         (stream_view W.given W.faults output.old) (stream_view W.given W.faults output.new) result }
     ensures later { W.faults output.old ≤ W.faults output.new }
-    ensures sure { (files : Files) (outcomes : List Outcome) → ScriptRuns limits files script.now outcomes
+    ensures sure { (files : Files) (outcomes : List Outcome) → AreKnown (to_run limits) (S.files store.old) files
+        → ScriptRuns limits (is_some (S.files store.old)) files script.now outcomes
         → length (told_script outcomes).printed ≤ W.sure_room output.old → W.faults output.new ≡ W.faults output.old }
+    ensures store { IsAsked S.files S.faults S.never_fails store.old store.new }
+    ensures rose { result ≡ Status.StoreFault → Rose (S.faults store.old) (S.faults store.new) }
 {
+    one_spelling();
     let places = match pieces(alloc, script) {
         Ok(places) => places,
         Err(AllocError) => return Status::Memory,
     };
-    match answer_pieces(alloc, limits, script, places.as_slice(), output) {
+    let mut engine: Engine<M> = Engine::new(alloc, limits);
+    match answer_pieces(
+        alloc,
+        &mut engine,
+        store,
+        script,
+        places.as_slice(),
+        output,
+        decodes,
+    ) {
         Ok(true) => Status::Refused,
         Ok(false) => Status::Done,
         Err(Stop::Memory) => Status::Memory,
-        Err(Stop::Fault) => Status::WriteFault,
+        Err(Stop::Sink) => Status::WriteFault,
+        Err(Stop::Store) => Status::StoreFault,
     }
 }

@@ -16,7 +16,7 @@ pub enum Status {
     WriteFault,
     /// There was not enough memory. Nothing was printed, or the outputs of some first statements of a script.
     Memory,
-    /// The store failed. No statement asks it as yet, so this never comes.
+    /// The store failed at a statement that asks it. The outputs of the statements before it were printed.
     StoreFault,
     /// The input has more than 67,108,864 bytes. Nothing was printed.
     Long,

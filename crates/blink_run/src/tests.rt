@@ -96,7 +96,7 @@ const COUNTS: [Row; 22] = [
 ];
 
 // Scripts: without a token, refused by their texts, and of several statements, of which the last needs no semicolon.
-const SCRIPTS: [Row; 14] = [
+const SCRIPTS: [Row; 15] = [
     ("run", "", Status::Done, ""),
     ("run", ";;", Status::Done, ""),
     ("run", " -- a comment; \n\t", Status::Done, ""),
@@ -140,21 +140,233 @@ const SCRIPTS: [Row; 14] = [
     ),
     (
         "run",
+        "EXPLAIN SELECT a FROM t; EXPORT TABLE t TO 'f'; IMPORT TABLE t FROM 'f'",
+        Status::Refused,
+        "refused: not built\nrefused: not built\nrefused: not built\n",
+    ),
+    (
+        "run",
         "DROP TABLE t; SELECT; ;INSERT INTO t VALUES (1), ('a;b');\nDESCRIBE t",
         Status::Refused,
-        "refused: not built\nrefused: syntax\nrefused: not built\nrefused: not built\n",
+        "refused: unknown table t\nrefused: syntax\nrefused: unknown table t\nrefused: unknown table t\n",
     ),
     (
         "run --rows 5 --blocks 7",
         "DROP TABLE t",
         Status::Refused,
-        "refused: not built\n",
+        "refused: unknown table t\n",
     ),
     (
         "run --blocks 000000001 --rows 8388608",
         ";",
         Status::Done,
         "",
+    ),
+];
+
+// The files of a script: names, and the lines of each with how often they stand.
+type Files = &'static [(&'static str, &'static [(&'static str, usize)])];
+
+// The words, the script, its files, the status, and what is printed.
+type TableRow = (&'static str, &'static str, Files, Status, &'static str);
+
+// Two rows of 1.
+const ONES: (&str, &[(&str, usize)]) = ("l.csv", &[("a", 1), ("1", 2)]);
+
+// A row of 7.
+const SEVEN: (&str, &[(&str, usize)]) = ("m.csv", &[("a", 1), ("7", 1)]);
+
+// Scripts that make, fill, describe and drop tables.
+const TABLES: [TableRow; 22] = [
+    (
+        "run",
+        "CREATE TABLE t (a INT); INSERT INTO t VALUES (3),(1),(3);",
+        &[],
+        Status::Done,
+        "created t\nadded 3\n",
+    ),
+    // 100 rows of one value and 10 each of four others: the first class takes two values, the second three.
+    (
+        "run",
+        "CREATE TABLE t (a INT); LOAD INTO t FROM 'c.csv'; DESCRIBE t",
+        &[(
+            "c.csv",
+            &[
+                ("a", 1),
+                ("5", 100),
+                ("4", 10),
+                ("3", 10),
+                ("2", 10),
+                ("1", 10),
+            ],
+        )],
+        Status::Done,
+        "created t\nadded 140\ntable t rows 140 blocks 2\ncolumn a int classes 2 1:2 2:3\ncell 0 rows 110 pages 1 banks 8\ncell 1 rows 30 pages 1 banks 8\nrest 0\n",
+    ),
+    (
+        "run",
+        "CREATE TABLE t (a INT); LOAD INTO t FROM 'c.csv'; DESCRIBE t",
+        &[("c.csv", &[("a", 1), ("4", 1025)])],
+        Status::Done,
+        "created t\nadded 1025\ntable t rows 1025 blocks 2\ncolumn a int classes 1 1:1\ncell 0 rows 1025 pages 2 banks 8\nrest 0\n",
+    ),
+    // Appended rows keep the layout; laid out anew, none is in rest.
+    (
+        "run",
+        "CREATE TABLE t (a INT); LOAD INTO t FROM 'l.csv'; APPEND INTO t FROM 'm.csv'; DESCRIBE t; REORGANIZE TABLE t; DESCRIBE t",
+        &[ONES, SEVEN],
+        Status::Done,
+        "created t\nadded 2\nadded 1\ntable t rows 3 blocks 1\ncolumn a int classes 1 1:1\ncell 0 rows 2 pages 1 banks 8\nrest 1\nreorganized t\ntable t rows 3 blocks 1\ncolumn a int classes 1 1:2\ncell 0 rows 3 pages 1 banks 8\nrest 0\n",
+    ),
+    // A key that stands twice adds no row.
+    (
+        "run",
+        "CREATE TABLE d (k INT PRIMARY KEY); INSERT INTO d VALUES (1),(2),(1); DESCRIBE d",
+        &[],
+        Status::Refused,
+        "created d\nrefused: duplicate key 3\ntable d rows 0 blocks 0\ncolumn k int classes 0 key\nrest 0\n",
+    ),
+    (
+        "run --rows 2",
+        "CREATE TABLE d (k INT PRIMARY KEY); INSERT INTO d VALUES (1),(2),(1); INSERT INTO d VALUES (1),(2)",
+        &[],
+        Status::Refused,
+        "created d\nrefused: too many rows\nadded 2\n",
+    ),
+    // Quoted fields, an empty line and an empty field; a header, and a record that is too short.
+    (
+        "run",
+        "CREATE TABLE t (a INT, b TEXT); LOAD INTO t FROM 'q.csv'",
+        &[(
+            "q.csv",
+            &[("A,b", 1), ("1,\"x,\"\"y\"\"\"", 1), ("", 1), ("2,", 1)],
+        )],
+        Status::Done,
+        "created t\nadded 2\n",
+    ),
+    (
+        "run",
+        "CREATE TABLE t (a INT, b TEXT); LOAD INTO t FROM 'q.csv'; LOAD INTO t FROM 'r.csv'",
+        &[
+            ("q.csv", &[("b,a", 1)]),
+            ("r.csv", &[("a,b", 1), ("1,x", 1), ("2", 1)]),
+        ],
+        Status::Refused,
+        "created t\nrefused: header\nrefused: arity 2\n",
+    ),
+    // Fifteen digits and sixteen.
+    (
+        "run",
+        "CREATE TABLE t (a INT); LOAD INTO t FROM 'i.csv'; LOAD INTO t FROM 'j.csv'",
+        &[
+            ("i.csv", &[("a", 1), ("999999999999999", 1)]),
+            ("j.csv", &[("a", 1), ("1000000000000000", 1)]),
+        ],
+        Status::Refused,
+        "created t\nadded 1\nrefused: bad value 1 1\n",
+    ),
+    // A year of 365 days and one of 366.
+    (
+        "run",
+        "CREATE TABLE t (d DATE); LOAD INTO t FROM 'i.csv'; APPEND INTO t FROM 'j.csv'",
+        &[
+            ("i.csv", &[("d", 1), ("2023-02-29", 1)]),
+            ("j.csv", &[("d", 1), ("2024-02-29", 1)]),
+        ],
+        Status::Refused,
+        "created t\nrefused: bad value 1 1\nadded 1\n",
+    ),
+    // The table is asked for before the file.
+    (
+        "run",
+        "CREATE TABLE t (a INT); LOAD INTO t FROM 'm.csv'; APPEND INTO u FROM 'l.csv'",
+        &[ONES],
+        Status::Refused,
+        "created t\nrefused: no file\nrefused: unknown table u\n",
+    ),
+    (
+        "run",
+        "CREATE TABLE t (a INT, d DATE); INSERT INTO t VALUES (1, '2024-02-29'), ('x', DATE '2024-01-01'); INSERT INTO t VALUES (1)",
+        &[],
+        Status::Refused,
+        "created t\nrefused: bad value 2 1\nrefused: arity 1\n",
+    ),
+    (
+        "run",
+        "CREATE TABLE t (a INT, a INT); CREATE TABLE t (a INT); CREATE TABLE t (b INT)",
+        &[],
+        Status::Refused,
+        "refused: bad columns\ncreated t\nrefused: table exists t\n",
+    ),
+    (
+        "run",
+        "CREATE TABLE t (c1 INT,c2 INT,c3 INT,c4 INT,c5 INT,c6 INT,c7 INT,c8 INT,c9 INT,c10 INT,c11 INT,c12 INT,c13 INT,c14 INT,c15 INT,c16 INT,c17 INT,c18 INT,c19 INT,c20 INT,c21 INT,c22 INT,c23 INT,c24 INT,c25 INT,c26 INT,c27 INT,c28 INT,c29 INT,c30 INT,c31 INT,c32 INT,c33 INT)",
+        &[],
+        Status::Refused,
+        "refused: bad columns\n",
+    ),
+    (
+        "run",
+        "CREATE TABLE t (a INT PRIMARY KEY, b INT PRIMARY KEY)",
+        &[],
+        Status::Refused,
+        "refused: bad columns\n",
+    ),
+    // A dropped table is gone, and its name may be taken again.
+    (
+        "run",
+        "CREATE TABLE t (a INT); DROP TABLE t; DESCRIBE t; CREATE TABLE t (b DATE PRIMARY KEY, c TEXT); DESCRIBE t",
+        &[],
+        Status::Refused,
+        "created t\ndropped t\nrefused: unknown table t\ncreated t\ntable t rows 0 blocks 0\ncolumn b date classes 0 key\ncolumn c text classes 0\nrest 0\n",
+    ),
+    // Without a layout, every row is in rest.
+    (
+        "run",
+        "CREATE TABLE t (a INT); INSERT INTO t VALUES (1); DESCRIBE t",
+        &[],
+        Status::Done,
+        "created t\nadded 1\ntable t rows 1 blocks 0\ncolumn a int classes 0\nrest 1\n",
+    ),
+    // Two columns of two bits and three bits share a tuplet of eight.
+    (
+        "run",
+        "CREATE TABLE t (a INT, b INT); LOAD INTO t FROM 'p.csv'; DESCRIBE t",
+        &[("p.csv", &[("a,b", 1), ("1,1", 1), ("2,2", 1), ("1,3", 1)])],
+        Status::Done,
+        "created t\nadded 3\ntable t rows 3 blocks 1\ncolumn a int classes 1 1:2\ncolumn b int classes 1 2:3\ncell 0.0 rows 3 pages 1 banks 8\nrest 0\n",
+    ),
+    // A file without a record, and a header alone.
+    (
+        "run",
+        "CREATE TABLE t (a INT); LOAD INTO t FROM 'e.csv'; LOAD INTO t FROM 'h.csv'; DESCRIBE t",
+        &[("e.csv", &[]), ("h.csv", &[("A", 1)])],
+        Status::Done,
+        "created t\nadded 0\nadded 0\ntable t rows 0 blocks 0\ncolumn a int classes 0\nrest 0\n",
+    ),
+    // The empty name has no file.
+    (
+        "run",
+        "CREATE TABLE t (a INT); LOAD INTO t FROM ''",
+        &[],
+        Status::Refused,
+        "created t\nrefused: no file\n",
+    ),
+    // Rows held count, and so do keys.
+    (
+        "run --rows 3",
+        "CREATE TABLE d (a INT PRIMARY KEY); APPEND INTO d FROM 'm.csv'; INSERT INTO d VALUES (8),(7); INSERT INTO d VALUES (8),(9),(7); INSERT INTO d VALUES (8)",
+        &[SEVEN],
+        Status::Refused,
+        "created d\nadded 1\nrefused: duplicate key 2\nrefused: too many rows\nadded 1\n",
+    ),
+    // A refused statement keeps the rows that were there.
+    (
+        "run",
+        "CREATE TABLE t (a INT); LOAD INTO t FROM 'l.csv'; LOAD INTO t FROM 'x.csv'; DESCRIBE t; REORGANIZE TABLE u",
+        &[ONES, ("x.csv", &[("a", 1), ("1", 1), ("x", 1)])],
+        Status::Refused,
+        "created t\nadded 2\nrefused: bad value 2 1\ntable t rows 2 blocks 1\ncolumn a int classes 1 1:1\ncell 0 rows 2 pages 1 banks 8\nrest 0\nrefused: unknown table u\n",
     ),
 ];
 
@@ -212,29 +424,175 @@ fn each_row_prints_its_lines(rt: HostRuntime) -> Result<(), Fail> {
     Ok(())
 }
 
+// The text of lines, each as often as it stands.
+fn text_of(alloc: Global, lines: &[(&str, usize)]) -> Result<Vec<u8>, AllocError> {
+    let mut text = Vec::new(alloc);
+    for (line, times) in lines {
+        for _ in 0..*times {
+            text.extend_from_slice(line.as_bytes())?;
+            text.push(b'\n')?;
+        }
+    }
+    Ok(text)
+}
+
+// A store with these files.
+fn shelf_of(
+    alloc: Global,
+    files: &[(&str, &[(&str, usize)])],
+    failing: Vec<u64>,
+) -> Result<Shelf, AllocError> {
+    let mut shelf = Shelf::new(alloc, failing);
+    for (name, lines) in files {
+        shelf.set(name, text_of(alloc, lines)?)?;
+    }
+    Ok(shelf)
+}
+
+// Runs the words over a script and its files, and asserts the status and what is printed.
+fn expect_tables(rt: &impl Abort, alloc: Global, row: &TableRow) -> Result<(), AllocError> {
+    let (text, script, files, status, printed) = row;
+    let words = words_of(alloc, text)?;
+    let mut source = BytesIn::new(script.as_bytes().to_vec(alloc)?, 16, Vec::new(alloc));
+    let mut sink = BytesOut::new(alloc, 1_048_576, Vec::new(alloc))?;
+    let mut store = shelf_of(alloc, files, Vec::new(alloc))?;
+    let ended = run(alloc, words.as_slice(), &mut source, &mut sink, &mut store);
+    assert_eq!(rt; ended, *status, "{script}");
+    assert_eq!(rt; sink.bytes(), printed.as_bytes(), "{script}");
+    for (name, lines) in *files {
+        assert_eq!(rt;
+            store.file(name),
+            Some(text_of(alloc, lines)?.as_slice()),
+            "{script}"
+        );
+    }
+    Ok(())
+}
+
+#[test]
+fn tables_are_kept(rt: HostRuntime) -> Result<(), Fail> {
+    let alloc = rt.alloc();
+    for row in &TABLES {
+        expect_tables(&rt, alloc, row)?;
+    }
+    Ok(())
+}
+
+// One table more than there may be.
+#[test]
+fn there_are_64_tables_at_most(rt: HostRuntime) -> Result<(), Fail> {
+    let alloc = rt.alloc();
+    let mut script = String::new(alloc);
+    let mut printed = String::new(alloc);
+    for number in 0..64u32 {
+        script.push_str(format!(in alloc; "CREATE TABLE t{number} (a INT);")?.as_str())?;
+        printed.push_str(format!(in alloc; "created t{number}\n")?.as_str())?;
+    }
+    script.push_str(
+        "CREATE TABLE u (a INT); CREATE TABLE t7 (a INT); DROP TABLE t7; CREATE TABLE u (a INT)",
+    )?;
+    printed.push_str(
+        "refused: too many tables\nrefused: table exists t7\ndropped t7\ncreated u\n",
+    )?;
+    let words = words_of(alloc, "run")?;
+    let mut source = BytesIn::new(script.as_bytes().to_vec(alloc)?, 64, Vec::new(alloc));
+    let mut sink = BytesOut::new(alloc, 4096, Vec::new(alloc))?;
+    let mut store = Shelf::new(alloc, Vec::new(alloc));
+    let ended = run(alloc, words.as_slice(), &mut source, &mut sink, &mut store);
+    assert_eq!(rt; ended, Status::Refused);
+    assert_eq!(rt; sink.bytes(), printed.as_bytes());
+    Ok(())
+}
+
+// The store's calls that fail, the sink's, the status, and what is printed. A statement that doesn't ask the store counts
+// as no call of it.
+#[test]
+fn a_fault_of_the_store_ends_a_run(rt: HostRuntime) -> Result<(), Fail> {
+    let alloc = rt.alloc();
+    let script =
+        "CREATE TABLE t (a INT); LOAD INTO u FROM 'l.csv'; LOAD INTO t FROM 'l.csv'; APPEND INTO t FROM 'm.csv'; DROP TABLE t";
+    let first = "created t\nrefused: unknown table u\n";
+    let second = "created t\nrefused: unknown table u\nadded 2\n";
+    for (store_fails, sink_fails, status, printed) in [
+        (1, 0, Status::StoreFault, first),
+        (2, 0, Status::StoreFault, second),
+        (
+            3,
+            0,
+            Status::Refused,
+            "created t\nrefused: unknown table u\nadded 2\nadded 1\ndropped t\n",
+        ),
+        (1, 2, Status::WriteFault, "created t\n"),
+        (2, 3, Status::WriteFault, first),
+    ] {
+        let words = words_of(alloc, "run")?;
+        let mut source = BytesIn::new(script.as_bytes().to_vec(alloc)?, 64, Vec::new(alloc));
+        let mut sink = BytesOut::new(alloc, 4096, vec![in alloc; sink_fails]?)?;
+        let mut store = shelf_of(alloc, &[ONES, SEVEN], vec![in alloc; store_fails]?)?;
+        let ended = run(alloc, words.as_slice(), &mut source, &mut sink, &mut store);
+        assert_eq!(rt; ended, status);
+        assert_eq!(rt; sink.bytes(), printed.as_bytes());
+    }
+    Ok(())
+}
+
+// The sink's second call fails: the first line stands.
+#[test]
+fn a_table_is_dropped_before_its_line_is_given(rt: HostRuntime) -> Result<(), Fail> {
+    let alloc = rt.alloc();
+    let script = "CREATE TABLE t (a INT); DROP TABLE t;";
+    let words = words_of(alloc, "run")?;
+    let mut source = BytesIn::new(script.as_bytes().to_vec(alloc)?, 64, Vec::new(alloc));
+    let mut sink = BytesOut::new(alloc, 4096, vec![in alloc; 2]?)?;
+    let mut store = Shelf::new(alloc, Vec::new(alloc));
+    let ended = run(alloc, words.as_slice(), &mut source, &mut sink, &mut store);
+    assert_eq!(rt; ended, Status::WriteFault);
+    assert_eq!(rt; sink.bytes(), b"created t\n".as_slice());
+    Ok(())
+}
+
+// A file of one byte more than may be fetched.
+#[test]
+fn a_file_past_the_limit_is_too_long(rt: HostRuntime) -> Result<(), Fail> {
+    let alloc = rt.alloc();
+    let script = "CREATE TABLE t (a INT); LOAD INTO t FROM 'f'";
+    let words = words_of(alloc, "run")?;
+    let mut source = BytesIn::new(script.as_bytes().to_vec(alloc)?, 64, Vec::new(alloc));
+    let mut sink = BytesOut::new(alloc, 4096, Vec::new(alloc))?;
+    let mut store = Shelf::new(alloc, Vec::new(alloc));
+    store.set("f", vec![in alloc; b' '; 134_217_729]?)?;
+    let ended = run(alloc, words.as_slice(), &mut source, &mut sink, &mut store);
+    assert_eq!(rt; ended, Status::Refused);
+    assert_eq!(rt;
+        sink.bytes(),
+        b"created t\nrefused: file too long\n".as_slice()
+    );
+    Ok(())
+}
+
 // The source's second call fails; the sink has room for one byte too few, or its first or second call fails.
 #[test]
 fn faults_end_a_run(rt: HostRuntime) -> Result<(), Fail> {
     let alloc = rt.alloc();
     let count = ("range a 2 5", "a\n1\n2\n5\n6\n");
     let script = ("run", "DROP TABLE t; SELECT; DROP TABLE u");
-    let line = "refused: not built\n";
+    let line = "refused: unknown table t\n";
     for ((words, input), source_fails, room, sink_fails, status, printed) in [
         (count, 2, 9, 0, Status::ReadFault, ""),
         (count, 0, 1, 0, Status::WriteFault, ""),
         (count, 0, 9, 1, Status::WriteFault, ""),
         (count, 0, 2, 2, Status::Done, "2\n"),
         (script, 2, 99, 0, Status::ReadFault, ""),
-        (script, 0, 34, 0, Status::WriteFault, line),
+        (script, 0, 40, 0, Status::WriteFault, line),
         (script, 0, 99, 1, Status::WriteFault, ""),
         (script, 0, 99, 2, Status::WriteFault, line),
         (
             script,
             0,
-            54,
+            66,
             4,
             Status::Refused,
-            "refused: not built\nrefused: syntax\nrefused: not built\n",
+            "refused: unknown table t\nrefused: syntax\nrefused: unknown table u\n",
         ),
     ] {
         let words = words_of(alloc, words)?;

@@ -1,11 +1,12 @@
 // The program.
-ghost use Rattle.std.specs.Prelude.{◌≡◌, ◌≤◌, ℕ, List, Some, length, map, string_bytes};
+ghost use Rattle.std.specs.Prelude.{◌≡◌, ◌≤◌, ◌<◌, ℕ, Bool, List, Some, is_some, length, map, string_bytes};
 ghost use Rattle.report_text.specs.Texts.{usage_bytes};
+ghost use Rattle.blink_edge.specs.Causes.{Rose};
 ghost use Rattle.blink_loader.specs.Range.{longest_input};
 ghost use Rattle.star_engine.specs.Catalog.{Files};
 ghost use Rattle.blink_run.specs.Program.{asked_by, nothing_known, Told, Tells};
-ghost use Rattle.blink_run.specs.Ends.{Ends, IsComplete, Gives, AreFiles, outside, stream_view, store_view};
-ghost use Rattle.blink_run.specs.Words.{asked_of};
+ghost use Rattle.blink_run.specs.Ends.{Ends, IsComplete, Gives, AreFiles, AreKnown, AsksNothing, IsAsked, outside, stream_view, store_view};
+ghost use Rattle.blink_run.specs.Words.{asked_of, IsAllowed};
 
 use crate::Status;
 use crate::count::answer_count;
@@ -14,13 +15,17 @@ use crate::script::answer_script;
 use crate::words::Request;
 use blink_edge::{Failed, ReadError, Sink, Source, Store, Taken, read_all, write_all};
 use std::alloc::Global;
+use std::marker::Brand;
+use std::sync::ledger;
+use std::sync::ledger::Blank;
+use word_pool::{Ledger, Steps, Tally};
 
 /// The most bytes of an input.
 const LONGEST_INPUT: u64 = 67_108_864;
 
 // Prints how the program is used. It takes no memory.
 fn answer_usage<W: Sink>(output: &mut W) -> Status
-    ensures ends { (files : Files) (input : List ℕ) → Gives nothing_known files input (stream_view W.given W.faults output.old) (stream_view W.given W.faults output.new) result }
+    ensures ends { (stay : Bool) (files : Files) (input : List ℕ) → Gives nothing_known stay files input (stream_view W.given W.faults output.old) (stream_view W.given W.faults output.new) result }
     ensures later { W.faults output.old ≤ W.faults output.new }
     ensures sure { length usage_bytes ≤ W.sure_room output.old → W.faults output.new ≡ W.faults output.old }
 {
@@ -31,17 +36,80 @@ fn answer_usage<W: Sink>(output: &mut W) -> Status
 }
 
 // Answers what is asked, over an input.
-fn answer<W: Sink>(alloc: Global, request: Request<'_>, input: &[u8], output: &mut W) -> Status
-    requires { length input.now ≤ longest_input }
-    ensures ends { (files : Files) → Gives (asked_of request.entry) files input.now (stream_view W.given W.faults output.old) (stream_view W.given W.faults output.new) result }
+fn answer<M: Ledger, W: Sink, S: Store>(
+    alloc: Global,
+    request: Request<'_>,
+    input: &[u8],
+    output: &mut W,
+    store: &mut S,
+    decodes: &mut Steps<M>,
+) -> Status
+    requires short { length input.now ≤ longest_input }
+    requires allowed { IsAllowed request }
+    ensures ends { (files : Files) → AreFiles (S.files store.old) files → Gives (asked_of request.entry) (is_some (S.files store.old)) files input.now
+        (stream_view W.given W.faults output.old) (stream_view W.given W.faults output.new) result }
     ensures later { W.faults output.old ≤ W.faults output.new }
-    ensures sure { (files : Files) (told : Told) → Tells (asked_of request.entry) files input.now told
+    ensures sure { (files : Files) (told : Told) → AreKnown (asked_of request.entry) (S.files store.old) files
+        → Tells (asked_of request.entry) (is_some (S.files store.old)) files input.now told
         → length told.printed ≤ W.sure_room output.old → W.faults output.new ≡ W.faults output.old }
+    ensures store { IsAsked S.files S.faults S.never_fails store.old store.new }
+    ensures kept { AsksNothing (asked_of request.entry) → store.new ≡ store.old }
+    ensures rose { result ≡ Status.StoreFault → Rose (S.faults store.old) (S.faults store.new) }
 {
     match request {
-        Request::Run(limits) => answer_script(alloc, limits, input, output),
+        Request::Run(limits) => answer_script(alloc, limits, input, output, store, decodes),
         Request::Count(bounds) => answer_count(alloc, bounds, input, output),
         Request::Unknown => answer_usage(output),
+    }
+}
+
+// Runs the program, and counts the codes that are decoded on the ledger of a blank.
+fn counted<N: ledger::Ledger, R: Source, W: Sink, S: Store>(
+    alloc: Global,
+    blank: Blank,
+    words: &[String],
+    input: &mut R,
+    output: &mut W,
+    store: &mut S,
+) -> Status
+    requires name { blank.name ≡ N.name }
+    requires parts { blank.parts ≡ N.parts }
+    requires some { 0 < blank.parts }
+    ensures ends { Ends (asked_by (map string_bytes words.now))
+        (outside (stream_view R.left R.faults input.old) (stream_view W.given W.faults output.old) (store_view S.files S.faults store.old))
+        (outside (stream_view R.left R.faults input.new) (stream_view W.given W.faults output.new) (store_view S.files S.faults store.new)) result }
+    ensures complete { IsComplete (asked_by (map string_bytes words.now))
+        (outside (stream_view R.left R.faults input.old) (stream_view W.given W.faults output.old) (store_view S.files S.faults store.old))
+        (outside (stream_view R.left R.faults input.new) (stream_view W.given W.faults output.new) (store_view S.files S.faults store.new)) result }
+    ensures store { IsAsked S.files S.faults S.never_fails store.old store.new }
+    ensures store_kept { AsksNothing (asked_by (map string_bytes words.now)) → store.new ≡ store.old }
+    ensures source_kept { asked_by (map string_bytes words.now) ≡ nothing_known → input.new ≡ input.old }
+    ensures source_later { R.faults input.old ≤ R.faults input.new }
+    ensures sink_later { W.faults output.old ≤ W.faults output.new }
+    ensures source_sure { R.never_fails input.old → R.faults input.new ≡ R.faults input.old }
+    ensures sink_sure { (bytes : List ℕ) (files : Files) (told : Told) → R.left input.old ≡ Some bytes
+        → AreKnown (asked_by (map string_bytes words.now)) (S.files store.old) files
+        → Tells (asked_by (map string_bytes words.now)) (is_some (S.files store.old)) files bytes told
+        → length told.printed ≤ W.sure_room output.old → W.faults output.new ≡ W.faults output.old }
+{
+    let mut decodes: Steps<Tally<N>> = Steps::new(Tally::new(blank));
+    let request = Request::of_words(words);
+    if let Request::Unknown = request {
+        return answer(alloc, request, &[], output, store, &mut decodes);
+    }
+    let mut bytes = Vec::new(alloc);
+    match read_all(input, LONGEST_INPUT, &mut bytes) {
+        Ok(Taken::Whole) => answer(
+            alloc,
+            request,
+            bytes.as_slice(),
+            output,
+            store,
+            &mut decodes,
+        ),
+        Ok(Taken::Long) => Status::Long,
+        Err(ReadError::Failed) => Status::ReadFault,
+        Err(ReadError::Memory) => Status::Memory,
     }
 }
 
@@ -50,13 +118,16 @@ fn answer<W: Sink>(alloc: Global, request: Request<'_>, input: &[u8], output: &m
 /// `run`, with `--rows N` and `--blocks N` behind it, each at most once and in any order, reads the source to its end as
 /// one script, and prints for each statement its output or the line of its refusal, one after the other. N is one to nine
 /// digits, from 1 to 8,388,608 rows or 2,097,152 blocks. Each output is given to the sink whole, once its statement has
-/// taken effect. `range COLUMN LOW HIGH`, where LOW and HIGH are whole numbers, reads the source to its end as one CSV
+/// taken effect. The tables are kept for this run alone. The store is asked by LOAD and APPEND into a table that is there,
+/// for a file of at most 134,217,728 bytes, and by nothing else; a fault of it ends the run.
+/// `range COLUMN LOW HIGH`, where LOW and HIGH are whole numbers, reads the source to its end as one CSV
 /// text and prints how many of its records have LOW <= COLUMN <= HIGH, or the line of a refusal. Any other words print
 /// the usage line; they read nothing and take no memory.
 ///
 /// How a run ends, what was read and what was printed is said for each status by `Ends`: a fault is answered only where
-/// that object's count of faults rose or stands at its last value, and want of memory may come at any point. The store
-/// is never asked as yet. Source: this project's own.
+/// that object's count of faults rose or stands at its last value, and want of memory may come at any point. What is
+/// printed is what the statements print over the files that the store tells; where it tells none, each statement goes by
+/// the files that it finds. Source: this project's own.
 pub fn run<R: Source, W: Sink, S: Store>(
     alloc: Global,
     words: &[String],
@@ -71,27 +142,20 @@ pub fn run<R: Source, W: Sink, S: Store>(
         (outside (stream_view R.left R.faults input.old) (stream_view W.given W.faults output.old) (store_view S.files S.faults store.old))
         (outside (stream_view R.left R.faults input.new) (stream_view W.given W.faults output.new) (store_view S.files S.faults store.new)) result }
 
-    // The store is as it was, and for words in no stated form so is the source.
-    ensures store_kept { store.new ≡ store.old }
+    // The store keeps the files that it tells, and for words that ask for no script it is as it was; for words in no stated
+    // form so is the source.
+    ensures store { IsAsked S.files S.faults S.never_fails store.old store.new }
+    ensures store_kept { AsksNothing (asked_by (map string_bytes words.now)) → store.new ≡ store.old }
     ensures source_kept { asked_by (map string_bytes words.now) ≡ nothing_known → input.new ≡ input.old }
 
     // No count of faults falls, and none rises where no call fails and there is room for all that is told.
     ensures source_later { R.faults input.old ≤ R.faults input.new }
     ensures sink_later { W.faults output.old ≤ W.faults output.new }
     ensures source_sure { R.never_fails input.old → R.faults input.new ≡ R.faults input.old }
-    ensures sink_sure { (bytes : List ℕ) (files : Files) (told : Told) → R.left input.old ≡ Some bytes → AreFiles (S.files store.old) files
-        → Tells (asked_by (map string_bytes words.now)) files bytes told
+    ensures sink_sure { (bytes : List ℕ) (files : Files) (told : Told) → R.left input.old ≡ Some bytes
+        → AreKnown (asked_by (map string_bytes words.now)) (S.files store.old) files
+        → Tells (asked_by (map string_bytes words.now)) (is_some (S.files store.old)) files bytes told
         → length told.printed ≤ W.sure_room output.old → W.faults output.new ≡ W.faults output.old }
 {
-    let request = Request::of_words(words);
-    if let Request::Unknown = request {
-        return answer(alloc, request, &[], output);
-    }
-    let mut bytes = Vec::new(alloc);
-    match read_all(input, LONGEST_INPUT, &mut bytes) {
-        Ok(Taken::Whole) => answer(alloc, request, bytes.as_slice(), output),
-        Ok(Taken::Long) => Status::Long,
-        Err(ReadError::Failed) => Status::ReadFault,
-        Err(ReadError::Memory) => Status::Memory,
-    }
+    counted::<Brand, R, W, S>(alloc, Blank::new(1), words, input, output, store)
 }

@@ -27,11 +27,12 @@ pub(crate) enum Request<'a> {
 }
 
 impl<'a> Request<'a> {
-    ghost use Rattle.blink_run.specs.Words.{asked_of};
+    ghost use Rattle.blink_run.specs.Words.{asked_of, IsAllowed};
 
     // The answers to a script, where the options say limits.
     fn run(options: &'a [String]) -> Request<'a>
-        ensures { asked_of result ≡ run_asked (limits_of (map string_bytes options.now)) }
+        ensures asked { asked_of result ≡ run_asked (limits_of (map string_bytes options.now)) }
+        ensures allowed { IsAllowed result }
     {
         match limits_of(options) {
             Some(limits) => Request::Run(limits),
@@ -41,7 +42,8 @@ impl<'a> Request<'a> {
 
     // The count between two bounds, where both are whole numbers.
     fn count(column: &'a str, low: &str, high: &str) -> Request<'a>
-        ensures { asked_of result ≡ count_asked column.now (whole_number low.now) (whole_number high.now) }
+        ensures asked { asked_of result ≡ count_asked column.now (whole_number low.now) (whole_number high.now) }
+        ensures allowed { IsAllowed result }
     {
         match (whole_number(low.as_bytes()), whole_number(high.as_bytes())) {
             (Some(low), Some(high)) => Request::Count(Bounds { column, low, high }),
@@ -51,7 +53,8 @@ impl<'a> Request<'a> {
 
     // The count that the words behind `range` ask for.
     fn range(words: &'a [String]) -> Request<'a>
-        ensures { asked_of result ≡ count_form (map string_bytes words.now) }
+        ensures asked { asked_of result ≡ count_form (map string_bytes words.now) }
+        ensures allowed { IsAllowed result }
     {
         match words {
             [column, low, high] => Request::count(column.as_str(), low.as_str(), high.as_str()),
@@ -61,7 +64,8 @@ impl<'a> Request<'a> {
 
     // What the words ask for. It takes no memory.
     pub(crate) fn of_words(words: &'a [String]) -> Request<'a>
-        ensures { asked_of result ≡ asked_by (map string_bytes words.now) }
+        ensures asked { asked_of result ≡ asked_by (map string_bytes words.now) }
+        ensures allowed { IsAllowed result }
     {
         let [verb, rest @ ..] = words else {
             return Request::Unknown;
