@@ -1,4 +1,4 @@
--- Three pieces: a statement, no statement, and a statement. None is built yet.
+-- Three pieces: a statement, no statement, and a query, which isn't built yet.
 CREATE TABLE rides (bike INT, minutes INT);
 SELECT;
 SELECT bike FROM rides WHERE minutes > 15
