@@ -1,2 +1,2 @@
-pub mod Filled
-pub mod Made
+pub mod BankLemmas
+pub mod PlanLemmas

@@ -1,3 +1,3 @@
 pub mod Banks
 pub mod Examples
-pub mod Plans
+pub mod PlanRepr

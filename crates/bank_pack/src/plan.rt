@@ -4,7 +4,7 @@ ghost use Rattle.std.specs.List.{list_all, list_any, position_or_len};
 ghost use Rattle.masked_compare.specs.Fields.{is_width};
 ghost use Rattle.bank_pack.specs.Banks.{banks_of, put_in_first, has_room, holds_column, widths_of, columns_of};
 
-use crate::bank::PlannedBank;
+use crate::planned_bank::PlannedBank;
 use masked_compare::Shape;
 use std::alloc::{AllocError, Global};
 use std::marker::Model;

@@ -19,13 +19,17 @@ mod refusal;
 mod roomy;
 mod schema;
 mod test;
+mod tree;
 mod value;
 mod word;
 
 pub use answer::{Answer, Field};
 pub use boxed::Boxed;
 pub use copied::Copied;
-pub use limits::Limits;
+pub use limits::{
+    LONGEST_CSV, LONGEST_INPUT, LONGEST_TEXT, Limits, MOST_BLOCKS, MOST_DIGITS, MOST_OPEN,
+    MOST_TABLES, NUMBER_BOUND,
+};
 pub use list::List;
 pub use numbers::whole_number;
 pub use op::Op;
@@ -33,6 +37,7 @@ pub use refusal::Refusal;
 pub use roomy::Roomy;
 pub use schema::{Column, Schema};
 pub use test::Test;
+pub use tree::Tree;
 pub use value::{Kind, Row, Value, ValueFault};
 pub use word::Word;
 

@@ -1,4 +1,4 @@
-pub mod Counts
-pub mod FileFacts
-pub mod Loops
-pub mod Pieces
+pub mod CountLemmas
+pub mod FileLemmas
+pub mod PieceLemmas
+pub mod WholeLemmas

@@ -1,3 +1,3 @@
-pub mod Counting
-pub mod Entries
-pub mod Sorting
+pub mod CountLemmas
+pub mod EntryLemmas
+pub mod RankLemmas

@@ -2,7 +2,7 @@
 use Rattle.std.specs.Prelude.{◌≡◌, pos, negsuc, List, [], ◌∷◌}
 use Rattle.blink_base.specs.declared.value.Value.{Value}
 use Rattle.blink_base.specs.declared.value.Value.TheVariants.{Int}
-use Rattle.blink_histogram.specs.Ranked.{ranked, distinct_values}
+use Rattle.blink_histogram.specs.Ranks.{ranked, distinct_values}
 
 abbrev pub ranked_column : List Value
 ranked_column = Int (pos 3) ∷ Int (pos 7) ∷ Int (negsuc 0) ∷ Int (pos 7) ∷ []

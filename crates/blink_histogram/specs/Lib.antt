@@ -1,4 +1,4 @@
 pub mod Examples
-pub mod Numbering
-pub mod Ranked
-pub mod Rankings
+pub mod InternerRepr
+pub mod RankEntry
+pub mod Ranks

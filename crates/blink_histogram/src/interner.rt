@@ -2,8 +2,8 @@
 ghost use Rattle.std.specs.Prelude.{◌≡◌, ◌<◌, ◌≤◌, ◌+◌, ◌++◌, [], ◌∷◌, List as Listed, length, slice_get, map, Some, option_map, IfOk, OnOk, OnErr};
 ghost use Rattle.blink_base.specs.declared.value.Value.{Value as Kept};
 ghost use Rattle.std.specs.Map.{keys_of, values_of};
-ghost use Rattle.blink_histogram.specs.Ranked.{counted};
-ghost use Rattle.blink_histogram.specs.Numbering.{number_of, numbered_values};
+ghost use Rattle.blink_histogram.specs.Ranks.{counted};
+ghost use Rattle.blink_histogram.specs.InternerRepr.{number_of, numbered_values};
 
 use blink_base::Value;
 use indexmap::IndexMap;
@@ -21,8 +21,8 @@ pub struct Interner {
 
 impl Model for Interner {
     ghost use Rattle.std.specs.Prelude.{List, ◌≤◌, length};
-    ghost use Rattle.blink_histogram.specs.Ranked.{Counted};
-    ghost use Rattle.blink_histogram.specs.Numbering.{numbered_values};
+    ghost use Rattle.blink_histogram.specs.Ranks.{Counted};
+    ghost use Rattle.blink_histogram.specs.InternerRepr.{numbered_values};
 
     ghost Value = { List Counted };
 

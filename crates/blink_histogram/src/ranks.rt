@@ -3,8 +3,8 @@ ghost use Rattle.std.specs.Prelude.{◌≡◌, map, slice_get, Some, IfOk, refl,
 ghost use Rattle.std.specs.Ordering.{eq_by_cmp, as_partial_cmp};
 ghost use Rattle.std.specs.Cmp.{partial_equiv_from_equiv, eq_by_cmp_equiv, partial_order_from_total};
 ghost use Rattle.blink_lists.specs.Lists.{in_order};
-ghost use Rattle.blink_histogram.specs.Ranked.{rank_cmp};
-ghost use Rattle.blink_histogram.specs.Rankings.{counted_in, ranking_cmp, ranking_total, HasPlace};
+ghost use Rattle.blink_histogram.specs.Ranks.{rank_cmp};
+ghost use Rattle.blink_histogram.specs.RankEntry.{counted_in, ranking_cmp, ranking_total, HasPlace};
 
 use crate::Interner;
 use blink_base::{List, Value};

@@ -1,3 +1,10 @@
-pub mod InOrder
-pub mod Rearrangements
-pub mod Widths
+pub mod AllLemmas
+pub mod BoolLemmas
+pub mod ChoiceLemmas
+pub mod GroupLemmas
+pub mod KeyLemmas
+pub mod OrderLemmas
+pub mod PlaceTestLemmas
+pub mod ProductLemmas
+pub mod RearrangementLemmas
+pub mod WidthLemmas

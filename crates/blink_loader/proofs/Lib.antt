@@ -1,4 +1,4 @@
-pub mod BatchFacts
-pub mod LeftFacts
-pub mod NextRecord
-pub mod RangeFacts
+pub mod BatchLemmas
+pub mod RangeCountLemmas
+pub mod RecordLemmas
+pub mod RecordsLeftLemmas

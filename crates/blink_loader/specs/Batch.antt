@@ -5,8 +5,8 @@ use Rattle.blink_base.specs.declared.schema.Schema.{Schema}
 use Rattle.blink_base.specs.declared.schema.Column.{Column}
 use Rattle.blink_base.specs.declared.value.Value.{Value}
 use Rattle.blink_base.specs.declared.value.ValueFault.{ValueFault}
-use Rattle.blink_base.specs.Compared.{Row}
-use Rattle.blink_base.specs.Read.{read_value}
+use Rattle.blink_base.specs.Values.{Row}
+use Rattle.blink_base.specs.ReadValue.{read_value}
 use Rattle.blink_loader.specs.declared.batch.LoadFault.{LoadFault}
 use Rattle.blink_loader.specs.declared.batch.LoadFault.TheVariants as fault
 use Rattle.blink_loader.specs.Records.{Record, records_of, same_name}

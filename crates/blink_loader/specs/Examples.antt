@@ -9,7 +9,7 @@ use Rattle.blink_base.specs.declared.value.ValueFault.TheVariants as why
 use Rattle.blink_loader.specs.declared.batch.LoadFault.TheVariants as load
 use Rattle.blink_loader.specs.Batch.{batch}
 use Rattle.blink_loader.specs.Records.{records_of}
-use Rattle.blink_loader.specs.Range.{range_of, unknown_column, bad_record, arity, bad_value}
+use Rattle.blink_loader.specs.RangeCount.{range_of, unknown_column, bad_record, arity, bad_value}
 
 -- three bytes in front of a text, by which some writers mark UTF-8
 abbrev pub TextsRead : Type 0

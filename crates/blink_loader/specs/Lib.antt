@@ -1,5 +1,5 @@
 pub mod Batch
 pub mod Examples
-pub mod Left
-pub mod Range
+pub mod RangeCount
 pub mod Records
+pub mod RecordsLeft

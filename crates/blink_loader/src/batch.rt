@@ -2,7 +2,7 @@
 ghost use Rattle.std.specs.Prelude.{◌≡◌, ◌≢◌, ◌≤◌, ◌<◌, ◌+◌, ◌^◌, Err, length};
 ghost use Rattle.std.specs.List.{list_all, zip};
 ghost use Rattle.csv.specs.Records.{fields_of};
-ghost use Rattle.blink_base.specs.Read.{read_value};
+ghost use Rattle.blink_base.specs.ReadValue.{read_value};
 ghost use Rattle.blink_loader.specs.Records.{same_name};
 ghost use Rattle.blink_loader.specs.Batch.{value_of, values_from, row_of, rows_from, is_header, batch_over, batch};
 

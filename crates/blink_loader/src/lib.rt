@@ -2,12 +2,12 @@
 #![tactic(auto)]
 
 mod batch;
+mod column_count;
 pub mod examples;
-mod range;
 mod records;
 
 pub use batch::{LoadFault, load};
-pub use range::{RangeFault, range_count};
+pub use column_count::{RangeFault, range_count};
 
 #[cfg(test)]
 mod tests;

@@ -16,7 +16,7 @@ pub(crate) struct Records<'a> {
 
 impl<'a> Model for Records<'a> {
     ghost use Rattle.std.specs.Prelude.{List, ℕ};
-    ghost use Rattle.blink_loader.specs.Left.{records_left, IsReading};
+    ghost use Rattle.blink_loader.specs.RecordsLeft.{records_left, IsReading};
 
     ghost Value = { List (List (List ℕ)) };
 

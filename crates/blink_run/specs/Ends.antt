@@ -6,8 +6,8 @@ use Rattle.std.specs.Io.KnownBytes.{Appends, Consumes, IsAtEnd, Keeps}
 use Rattle.blink_edge.specs.Causes.{Rose}
 use Rattle.blink_edge.specs.Files as store
 use Rattle.report_text.specs.Texts.{Bytes, usage_bytes}
-use Rattle.blink_loader.specs.Range.{longest_input}
-use Rattle.star_engine.specs.Catalog.{Files}
+use Rattle.blink_base.specs.declared.limits.TheConstants.{LONGEST_INPUT}
+use Rattle.star_engine.specs.State.{Files}
 use Rattle.star_engine.specs.Step.{Outcome}
 use Rattle.blink_run.specs.Script.{ScriptBegins, ScriptAsks, outputs_of}
 use Rattle.blink_run.specs.Program.{Asked, to_run, to_count, nothing_known, Told, Tells, count_told, status_of}
@@ -73,7 +73,7 @@ ReadsInput nothing_known = ⊥
 
 -- the source was read to its end
 abbrev pub IsReadWhole : Shown → Shown → Bytes → Type 0
-IsReadWhole old new input = Consumes old.bytes new.bytes input × IsAtEnd new.bytes × (length input ≤ longest_input)
+IsReadWhole old new input = Consumes old.bytes new.bytes input × IsAtEnd new.bytes × (length input ≤ LONGEST_INPUT)
 
 -- this input was read: a script and a count read the source to its end, and words in no form leave it as it was
 abbrev pub IsRead : Asked → Shown → Shown → Bytes → Type 0
@@ -139,12 +139,12 @@ abbrev pub Ends : Asked → Outside → Outside → Status → Type 0
 Ends asked old new status.Done = IsAnswered asked old new status.Done
 Ends asked old new status.Refused = IsAnswered asked old new status.Refused
 Ends asked old new status.Usage = IsAnswered asked old new status.Usage
-Ends asked old new status.ReadFault = Rose old.source.faults new.source.faults × NothingGiven asked longest_input old new
+Ends asked old new status.ReadFault = Rose old.source.faults new.source.faults × NothingGiven asked LONGEST_INPUT old new
 Ends asked old new status.WriteFault = IsAnswered asked old new status.WriteFault
-Ends asked old new status.Memory = NothingGiven asked (longest_input + 1) old new ⊎ IsAnswered asked old new status.Memory
+Ends asked old new status.Memory = NothingGiven asked (LONGEST_INPUT + 1) old new ⊎ IsAnswered asked old new status.Memory
 Ends asked old new status.StoreFault = Rose old.store.faults new.store.faults × IsAnswered asked old new status.StoreFault
 Ends asked old new status.Long = ReadsInput asked × Keeps old.sink.bytes new.sink.bytes
-    × (taken : Bytes) × Consumes old.source.bytes new.source.bytes taken × (length taken ≡ longest_input + 1)
+    × (taken : Bytes) × Consumes old.source.bytes new.source.bytes taken × (length taken ≡ LONGEST_INPUT + 1)
 
 -- a run came to its end, or found no memory
 abbrev pub IsAnswerOrMemory : Status → Type 0
@@ -159,7 +159,7 @@ IsAnswerOrMemory status.Long = ⊥
 
 -- the source tells an input that isn't too long, and its count of faults did not rise
 abbrev pub IsInputThere : Shown → Shown → Type 0
-IsInputThere old new = (input : Bytes) × (old.bytes ≡ Some input) × (length input ≤ longest_input) × ¬ (Rose old.faults new.faults)
+IsInputThere old new = (input : Bytes) × (old.bytes ≡ Some input) × (length input ≤ LONGEST_INPUT) × ¬ (Rose old.faults new.faults)
 
 -- where no count of faults rose and the input isn't too long, a run is answered, but for want of memory; words in no form need none
 abbrev pub IsComplete : Asked → Outside → Outside → Status → Type 0

@@ -9,7 +9,7 @@ use Rattle.star_sql.specs.declared.ast.Literal.TheVariants as literal
 use Rattle.star_sql.specs.declared.ast.Statement.{Statement}
 use Rattle.star_sql.specs.declared.ast.Statement.TheVariants as statement
 use Rattle.star_sql.specs.declared.ast.What.TheVariants as what
-use Rattle.star_engine.specs.Catalog.{Files}
+use Rattle.star_engine.specs.State.{Files}
 use Rattle.star_engine.specs.Step.{step}
 use Rattle.report_text.specs.Texts.{Bytes}
 use Rattle.blink_run.specs.Options.{standard_limits}

@@ -1,10 +1,10 @@
 pub mod Ends
 pub mod Examples
 pub mod Options
-pub mod Places
+pub mod PieceSpans
+pub mod PiecesRun
 pub mod Program
-pub mod Replies
-pub mod Running
+pub mod Request
 pub mod Script
-pub mod Statuses
-pub mod Words
+pub mod StatementOutput
+pub mod StatusCode

@@ -2,16 +2,15 @@
 use Rattle.std.specs.Prelude.{ℕ, ℤ, pos, negsuc, ◌&&◌, List, [], ◌∷◌, length, codes, nat_le, Option, Some, None, if◌then◌else◌}
 use Rattle.std.specs.Str.{bytes_eq}
 use Rattle.blink_base.specs.declared.limits.Limits.{Limits}
-use Rattle.blink_base.specs.Read.{whole_number}
+use Rattle.blink_base.specs.ReadValue.{whole_number}
+use Rattle.blink_base.specs.declared.limits.TheConstants.{MOST_BLOCKS}
+use Rattle.blink_lists.specs.declared.limits.TheConstants.{MOST_ROWS}
 use Rattle.report_text.specs.Texts.{Bytes}
+use Rattle.blink_run.specs.declared.options.TheConstants.{MOST_OPTION_DIGITS}
 
 -- how many rows a table may have, and how many blocks all tables, where the words don't say it
 abbrev pub standard_limits : Limits
-standard_limits = record { rows = 8388608; blocks = 2097152 }
-
--- how many digits the number of an option may have
-abbrev pub most_option_digits : ℕ
-most_option_digits = 9
+standard_limits = record { rows = MOST_ROWS; blocks = MOST_BLOCKS }
 
 -- a whole number from 1 to the most
 abbrev pub from_one_to : ℕ → Option ℤ → Option ℕ
@@ -21,7 +20,7 @@ from_one_to most (Some (negsuc n)) = None
 
 -- a whole number from 1 to the most, written in at most nine bytes, which are digits then; zeros may lead
 abbrev pub number_within : ℕ → Bytes → Option ℕ
-number_within most word = if nat_le (length word) most_option_digits then from_one_to most (whole_number word) else None
+number_within most word = if nat_le (length word) MOST_OPTION_DIGITS then from_one_to most (whole_number word) else None
 
 -- the number of an option, where the word before it is the option's
 abbrev pub option_number : Bytes → ℕ → Bytes → Bytes → Option ℕ

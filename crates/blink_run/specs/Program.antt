@@ -5,10 +5,10 @@ use Rattle.std.specs.Str.{bytes_eq, str_to_ascii_lowercase}
 use Rattle.blink_base.specs.declared.limits.Limits.{Limits}
 use Rattle.blink_base.specs.declared.refusal.Refusal.{Refusal}
 use Rattle.blink_base.specs.declared.refusal.Refusal.TheVariants as refusal
-use Rattle.blink_base.specs.Read.{whole_number}
+use Rattle.blink_base.specs.ReadValue.{whole_number}
 use Rattle.report_text.specs.Texts.{Bytes, refusal_bytes, number_bytes, usage_bytes}
-use Rattle.blink_loader.specs.Range.{RangeRefusal, unknown_column, bad_record, arity, bad_value, range_of}
-use Rattle.star_engine.specs.Catalog.{Files}
+use Rattle.blink_loader.specs.RangeCount.{RangeRefusal, unknown_column, bad_record, arity, bad_value, range_of}
+use Rattle.star_engine.specs.State.{Files}
 use Rattle.star_engine.specs.Step.{Outcome}
 use Rattle.blink_run.specs.Options.{limits_of}
 use Rattle.blink_run.specs.Script.{ScriptRuns, outputs_of, is_any_refused}

@@ -3,8 +3,8 @@ use Rattle.std.specs.Prelude.{◌≡◌, Bool, true, false, List, [], ◌∷◌,
 use Rattle.std.specs.List.{list_any}
 use Rattle.blink_base.specs.declared.limits.Limits.{Limits}
 use Rattle.star_lex.specs.Pieces.{piece_texts}
-use Rattle.star_sql.specs.Saying.{Said, Says, is_passed_over}
-use Rattle.star_engine.specs.Catalog.{Files, State}
+use Rattle.star_sql.specs.PieceStatement.{Said, Says, is_passed_over}
+use Rattle.star_engine.specs.State.{Files, State}
 use Rattle.star_engine.specs.Step.{Outcome, step, piece_asks_store}
 use Rattle.report_text.specs.Texts.{Bytes}
 

@@ -1,16 +1,16 @@
 // What a piece of a script says, and what is answered to it.
 ghost use Rattle.std.specs.Prelude.{◌≡◌, ◌≤◌, true, false, length, is_some, Err, Ok, IfOk, IfSome, IfNone, IsTrue};
-ghost use Rattle.blink_base.specs.Words.{longest_script};
+ghost use Rattle.blink_base.specs.declared.limits.TheConstants.{LONGEST_INPUT};
 ghost use Rattle.blink_base.specs.declared.limits.Limits.{Limits as Bounds};
 ghost use Rattle.blink_edge.specs.Causes.{Rose};
-ghost use Rattle.star_sql.specs.Saying.{Says, is_passed_over};
+ghost use Rattle.star_sql.specs.PieceStatement.{Says, is_passed_over};
 ghost use Rattle.star_sql.specs.WellFormed.{is_well_formed};
 ghost use Rattle.star_sql.specs.declared.ast.Statement.{Statement as Stated};
-ghost use Rattle.star_engine.specs.Catalog.{State};
-ghost use Rattle.star_engine.specs.Shown.{HasTables, IsEngineOf};
+ghost use Rattle.star_engine.specs.State.{State};
+ghost use Rattle.star_engine.specs.EngineRepr.{HasTables, IsEngineOf};
 ghost use Rattle.blink_run.specs.Ends.{AreFiles, IsAsked};
-ghost use Rattle.blink_run.specs.Replies.{IsSaidFrom, IsPieceAnswer};
-ghost use Rattle.blink_run.specs.Running.{Stands};
+ghost use Rattle.blink_run.specs.StatementOutput.{IsSaidFrom, IsPieceAnswer};
+ghost use Rattle.blink_run.specs.PiecesRun.{Stands};
 
 use crate::printed::refused;
 use crate::statements::answer_statement;
@@ -29,7 +29,7 @@ type Said = Result<Statement, Refusal>;
 
 // What a piece says, where it isn't passed over: first its first place at fault decides, then its depth, then its spelling.
 fn said_by(alloc: Global, text: &[u8]) -> Result<Option<Said>, AllocError>
-    requires { length text.now ≤ longest_script }
+    requires { length text.now ≤ LONGEST_INPUT }
     ensures passed { IfOk result (λ said. IfNone said (is_passed_over text.now ≡ true)) }
     ensures says { IfOk result (λ said. IfSome said (λ s. (is_passed_over text.now ≡ false) × Says text.now s)) }
 {
@@ -83,7 +83,7 @@ pub(crate) fn answer_by<M: Ledger, S: Store>(
     text: &[u8],
     decodes: &mut Steps<M>,
 ) -> Result<Option<Told>, Stop>
-    requires short { length text.now ≤ longest_script }
+    requires short { length text.now ≤ LONGEST_INPUT }
     requires sound { HasTables engine.old }
     ensures answer { (limits : Bounds) (state : State) → Stands limits (S.files store.old) state engine.old
         → IsPieceAnswer limits (S.files store.old) (is_some (S.files store.old)) state text.now result engine.new }

@@ -2,12 +2,12 @@
 ghost use Rattle.std.specs.Prelude.{◌≡◌, ◌≤◌, Bool, length, true, false, IfOk};
 ghost use Rattle.std.specs.Str.{str_to_ascii_lowercase};
 ghost use Rattle.blink_base.specs.declared.refusal.Refusal.TheVariants.{UnknownColumn};
-ghost use Rattle.blink_loader.specs.Range.{longest_input};
+ghost use Rattle.blink_base.specs.declared.limits.TheConstants.{LONGEST_INPUT};
 ghost use Rattle.report_text.specs.Texts.{refusal_bytes};
-ghost use Rattle.star_engine.specs.Catalog.{Files};
+ghost use Rattle.star_engine.specs.State.{Files};
 ghost use Rattle.blink_run.specs.Program.{count_told};
 ghost use Rattle.blink_run.specs.Ends.{Gives, stream_view};
-ghost use Rattle.blink_run.specs.Words.{asked_of};
+ghost use Rattle.blink_run.specs.Request.{asked_of};
 ghost use Rattle.blink_run.specs.declared.words.Request.TheVariants.{Count};
 
 use crate::Status;
@@ -30,9 +30,9 @@ fn unknown_column_line(alloc: Global, column: &str) -> Result<List<u8>, AllocErr
 }
 
 // What the count of a column between two bounds tells of an input.
-#[tactic(auto, using(crate::proofs::Telling::told_count_by_answer))]
+#[tactic(auto, using(crate::proofs::CountOutputLemmas::told_count_by_answer))]
 fn tell_count(alloc: Global, bounds: Bounds<'_>, input: &[u8]) -> Result<Told, AllocError>
-    requires { length input.now ≤ longest_input }
+    requires { length input.now ≤ LONGEST_INPUT }
     ensures line { IfOk result (λ told. told.line ≡ (count_told bounds.entry.column.now bounds.entry.low bounds.entry.high input.now).printed) }
     ensures refused { IfOk result (λ told. told.refused ≡ (count_told bounds.entry.column.now bounds.entry.low bounds.entry.high input.now).refused) }
 {
@@ -64,7 +64,7 @@ pub(crate) fn answer_count<W: Sink>(
     input: &[u8],
     output: &mut W,
 ) -> Status
-    requires { length input.now ≤ longest_input }
+    requires { length input.now ≤ LONGEST_INPUT }
     ensures ends { (stay : Bool) (files : Files) → Gives (asked_of (Count bounds.entry)) stay files input.now
         (stream_view W.given W.faults output.old) (stream_view W.given W.faults output.new) result }
     ensures later { W.faults output.old ≤ W.faults output.new }

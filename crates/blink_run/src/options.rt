@@ -2,16 +2,11 @@
 ghost use Rattle.std.specs.Prelude.{◌≡◌, [], ◌∷◌, map, string_bytes};
 ghost use Rattle.blink_run.specs.Options.{from_one_to, limits_of, limits_made, number_within, option_number, rows_option, blocks_option};
 
-use blink_base::{Limits, whole_number};
+use blink_base::{Limits, MOST_BLOCKS, whole_number};
+use blink_lists::MOST_ROWS;
 
 /// How many digits the number of an option may have.
 const MOST_OPTION_DIGITS: usize = 9;
-
-/// The most rows of a table, where the words don't say it, and the most that they may say.
-const STANDARD_ROWS: u64 = 8_388_608;
-
-/// The most blocks of all tables, where the words don't say it, and the most that they may say.
-const STANDARD_BLOCKS: u64 = 2_097_152;
 
 // A whole number from 1 to the most.
 fn from_one_to(most: u64, number: Option<i64>) -> Option<u64>
@@ -52,14 +47,14 @@ fn option_number(option: &str, most: u64, word: &str, number: &str) -> Option<u6
 fn rows(word: &str, number: &str) -> Option<u64>
     ensures { result ≡ rows_option word.now number.now }
 {
-    option_number("--rows", STANDARD_ROWS, word, number)
+    option_number("--rows", MOST_ROWS, word, number)
 }
 
 // The number of `--blocks`.
 fn blocks(word: &str, number: &str) -> Option<u64>
     ensures { result ≡ blocks_option word.now number.now }
 {
-    option_number("--blocks", STANDARD_BLOCKS, word, number)
+    option_number("--blocks", MOST_BLOCKS, word, number)
 }
 
 // The limits of both numbers, where both are there.
@@ -76,9 +71,9 @@ fn limits(rows: Option<u64>, blocks: Option<u64>) -> Option<Limits>
 fn one_option(word: &str, number: &str) -> Option<Limits>
     ensures { result ≡ limits_of (word.now ∷ number.now ∷ []) }
 {
-    match limits(rows(word, number), Some(STANDARD_BLOCKS)) {
+    match limits(rows(word, number), Some(MOST_BLOCKS)) {
         Some(limits) => Some(limits),
-        None => limits(Some(STANDARD_ROWS), blocks(word, number)),
+        None => limits(Some(MOST_ROWS), blocks(word, number)),
     }
 }
 
@@ -97,7 +92,7 @@ pub(crate) fn limits_of(words: &[String]) -> Option<Limits>
     ensures { result ≡ limits_of (map string_bytes words.now) }
 {
     match words {
-        [] => limits(Some(STANDARD_ROWS), Some(STANDARD_BLOCKS)),
+        [] => limits(Some(MOST_ROWS), Some(MOST_BLOCKS)),
         [word, number] => one_option(word.as_str(), number.as_str()),
         [first, number, second, other] => both_options(
             first.as_str(),

@@ -1,13 +1,13 @@
 // The pieces of a script, one behind the other.
 ghost use Rattle.std.specs.Prelude.{◌≡◌, ◌≤◌, [], ◌∷◌, length, map, is_some, Err, IfOk, IfErr, All};
-ghost use Rattle.blink_base.specs.Words.{longest_script};
+ghost use Rattle.blink_base.specs.declared.limits.TheConstants.{LONGEST_INPUT};
 ghost use Rattle.blink_base.specs.declared.limits.Limits.{Limits};
 ghost use Rattle.blink_edge.specs.Causes.{Rose};
-ghost use Rattle.star_engine.specs.Catalog.{State};
-ghost use Rattle.star_engine.specs.Shown.{HasTables};
+ghost use Rattle.star_engine.specs.State.{State};
+ghost use Rattle.star_engine.specs.EngineRepr.{HasTables};
 ghost use Rattle.blink_run.specs.Ends.{IsAsked};
-ghost use Rattle.blink_run.specs.Running.{AreAnswered, AreStopped, Stands, sink_view};
-ghost use Rattle.blink_run.specs.Places.{IsWithin, text_at};
+ghost use Rattle.blink_run.specs.PiecesRun.{AreAnswered, AreStopped, Stands, sink_view};
+ghost use Rattle.blink_run.specs.PieceSpans.{IsWithin, text_at};
 
 use crate::answers::answer_by;
 use crate::stop::Stop;
@@ -35,7 +35,7 @@ fn answer_piece<M: Ledger, W: Sink, S: Store>(
     output: &mut W,
     decodes: &mut Steps<M>,
 ) -> Result<bool, Stop>
-    requires short { length text.now ≤ longest_script }
+    requires short { length text.now ≤ LONGEST_INPUT }
     requires sound { HasTables engine.old }
     ensures answered { IfOk result (λ refused. (limits : Limits) (state : State) → Stands limits (S.files store.old) state engine.old
         → AreAnswered limits (S.files store.old) (is_some (S.files store.old)) state (text.now ∷ [])
@@ -68,7 +68,7 @@ pub(crate) fn answer_pieces<M: Ledger, W: Sink, S: Store>(
     output: &mut W,
     decodes: &mut Steps<M>,
 ) -> Result<bool, Stop>
-    requires short { length script.now ≤ longest_script }
+    requires short { length script.now ≤ LONGEST_INPUT }
     requires within { All (IsWithin script.now) places.now }
     requires sound { HasTables engine.old }
     ensures answered { IfOk result (λ refused. (limits : Limits) (state : State) → Stands limits (S.files store.old) state engine.old

@@ -1,7 +1,7 @@
 // The lines that statements print.
 ghost use Rattle.std.specs.Prelude.{◌≡◌, false, true, IfOk};
 ghost use Rattle.report_text.specs.Texts.{Bytes, refusal_bytes};
-ghost use Rattle.blink_run.specs.Replies.{IsLine, IsRefusal, IsAdditionLine};
+ghost use Rattle.blink_run.specs.StatementOutput.{IsLine, IsRefusal, IsAdditionLine};
 
 use crate::stop::Stop;
 use crate::told::Told;

@@ -1,9 +1,9 @@
 // The answers to a script.
 ghost use Rattle.std.specs.Prelude.{◌≡◌, ◌≤◌, List, length, is_some};
-ghost use Rattle.blink_base.specs.Words.{longest_script};
+ghost use Rattle.blink_base.specs.declared.limits.TheConstants.{LONGEST_INPUT};
 ghost use Rattle.blink_edge.specs.Causes.{Rose};
-ghost use Rattle.star_engine.specs.Catalog.{Files};
-ghost use Rattle.star_engine.specs.Sound.{AreLimits};
+ghost use Rattle.star_engine.specs.State.{Files};
+ghost use Rattle.star_engine.specs.Soundness.{AreLimits};
 ghost use Rattle.star_engine.specs.Step.{Outcome};
 ghost use Rattle.blink_run.specs.Script.{ScriptRuns};
 ghost use Rattle.blink_run.specs.Program.{to_run, told_script};
@@ -29,7 +29,7 @@ pub(crate) fn answer_script<M: Ledger, W: Sink, S: Store>(
     store: &mut S,
     decodes: &mut Steps<M>,
 ) -> Status
-    requires short { length script.now ≤ longest_script }
+    requires short { length script.now ≤ LONGEST_INPUT }
     requires limits { AreLimits limits }
     ensures ends { (files : Files) → AreFiles (S.files store.old) files → Gives (to_run limits) (is_some (S.files store.old)) files script.now
         (stream_view W.given W.faults output.old) (stream_view W.given W.faults output.new) result }

@@ -3,28 +3,26 @@ ghost use Rattle.std.specs.Prelude.{◌≡◌, ◌≢◌, true, Some, IsTrue, On
 ghost use Rattle.blink_edge.specs.Causes.{Rose};
 ghost use Rattle.star_sql.specs.WellFormed.{is_well_formed};
 ghost use Rattle.star_sql.specs.declared.ast.Statement.TheVariants as statement;
-ghost use Rattle.star_engine.specs.Batches.{loaded};
-ghost use Rattle.star_engine.specs.Catalog.{State, Tables};
+ghost use Rattle.star_engine.specs.LoadedRows.{loaded};
+ghost use Rattle.star_engine.specs.State.{State, Tables};
 ghost use Rattle.star_engine.specs.Changes.{added};
-ghost use Rattle.star_engine.specs.Shown.{HasTables, IsAddition, IsEngineOf};
+ghost use Rattle.star_engine.specs.EngineRepr.{HasTables, IsAddition, IsEngineOf};
 ghost use Rattle.blink_run.specs.Ends.{AreFiles, IsAsked};
 ghost use Rattle.report_text.specs.Texts.{refusal_bytes};
-ghost use Rattle.star_engine.specs.Step.{fetched, longest_csv};
-ghost use Rattle.blink_run.specs.Replies.{IsLine, IsReply, IsReplyFrom, IsFetched, bytes_in, loads};
+ghost use Rattle.star_engine.specs.Step.{fetched};
+ghost use Rattle.blink_base.specs.declared.limits.TheConstants.{LONGEST_CSV};
+ghost use Rattle.blink_run.specs.StatementOutput.{IsLine, IsReply, IsReplyFrom, IsFetched, bytes_in, loads};
 
 use crate::printed::{addition, done, refused, refused_by};
 use crate::stop::Stop;
 use crate::told::Told;
-use blink_base::{List, Refusal, Word};
+use blink_base::{LONGEST_CSV, List, Refusal, Word};
 use blink_edge::{Found, Store, StoreError};
 use report_text::{created_text, dropped_text, layout_text, reorganized_text};
 use star_engine::{Engine, EngineError};
 use star_sql::{ColumnDef, Literal, Statement};
 use std::alloc::Global;
 use word_pool::{Ledger, Steps};
-
-/// The most bytes of a CSV file.
-const LONGEST_CSV: u64 = 134_217_728;
 
 // Answers CREATE TABLE.
 fn create<M: Ledger>(
@@ -128,7 +126,7 @@ fn add_bytes<M: Ledger>(
 
 // The bytes of a file, where there are no more than a CSV file may have.
 fn short_enough(bytes: Vec<u8>) -> Result<Vec<u8>, Refusal>
-    ensures { bytes_in result ≡ fetched longest_csv (Some bytes.items) }
+    ensures { bytes_in result ≡ fetched LONGEST_CSV (Some bytes.items) }
 {
     if bytes.len() as u64 <= LONGEST_CSV {
         Ok(bytes)

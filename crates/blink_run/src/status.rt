@@ -23,7 +23,7 @@ pub enum Status {
 }
 
 impl Status {
-    ghost use Rattle.blink_run.specs.Statuses.{code_of};
+    ghost use Rattle.blink_run.specs.StatusCode.{code_of};
 
     /// The number that the program ends with: 0 to 7, in the order of the declaration.
     pub fn code(self) -> u8

@@ -2,26 +2,24 @@
 ghost use Rattle.std.specs.Prelude.{◌≡◌, ◌≤◌, ◌<◌, ℕ, Bool, List, Some, is_some, length, map, string_bytes};
 ghost use Rattle.report_text.specs.Texts.{usage_bytes};
 ghost use Rattle.blink_edge.specs.Causes.{Rose};
-ghost use Rattle.blink_loader.specs.Range.{longest_input};
-ghost use Rattle.star_engine.specs.Catalog.{Files};
+ghost use Rattle.blink_base.specs.declared.limits.TheConstants.{LONGEST_INPUT};
+ghost use Rattle.star_engine.specs.State.{Files};
 ghost use Rattle.blink_run.specs.Program.{asked_by, nothing_known, Told, Tells};
 ghost use Rattle.blink_run.specs.Ends.{Ends, IsComplete, Gives, AreFiles, AreKnown, AsksNothing, IsAsked, outside, stream_view, store_view};
-ghost use Rattle.blink_run.specs.Words.{asked_of, IsAllowed};
+ghost use Rattle.blink_run.specs.Request.{asked_of, IsAllowed};
 
 use crate::Status;
 use crate::count::answer_count;
 use crate::lines::USAGE;
 use crate::script::answer_script;
 use crate::words::Request;
+use blink_base::LONGEST_INPUT;
 use blink_edge::{Failed, ReadError, Sink, Source, Store, Taken, read_all, write_all};
 use std::alloc::Global;
 use std::marker::Brand;
 use std::sync::ledger;
 use std::sync::ledger::Blank;
 use word_pool::{Ledger, Steps, Tally};
-
-/// The most bytes of an input.
-const LONGEST_INPUT: u64 = 67_108_864;
 
 // Prints how the program is used. It takes no memory.
 fn answer_usage<W: Sink>(output: &mut W) -> Status
@@ -44,7 +42,7 @@ fn answer<M: Ledger, W: Sink, S: Store>(
     store: &mut S,
     decodes: &mut Steps<M>,
 ) -> Status
-    requires short { length input.now ≤ longest_input }
+    requires short { length input.now ≤ LONGEST_INPUT }
     requires allowed { IsAllowed request }
     ensures ends { (files : Files) → AreFiles (S.files store.old) files → Gives (asked_of request.entry) (is_some (S.files store.old)) files input.now
         (stream_view W.given W.faults output.old) (stream_view W.given W.faults output.new) result }

@@ -1,6 +1,6 @@
 // The words of the command line.
 ghost use Rattle.std.specs.Prelude.{◌≡◌, map, string_bytes};
-ghost use Rattle.blink_base.specs.Read.{whole_number};
+ghost use Rattle.blink_base.specs.ReadValue.{whole_number};
 ghost use Rattle.blink_run.specs.Options.{limits_of};
 ghost use Rattle.blink_run.specs.Program.{asked_by, count_asked, count_form, run_asked};
 
@@ -27,7 +27,7 @@ pub(crate) enum Request<'a> {
 }
 
 impl<'a> Request<'a> {
-    ghost use Rattle.blink_run.specs.Words.{asked_of, IsAllowed};
+    ghost use Rattle.blink_run.specs.Request.{asked_of, IsAllowed};
 
     // The answers to a script, where the options say limits.
     fn run(options: &'a [String]) -> Request<'a>

@@ -4,13 +4,14 @@ use Rattle.std.specs.List.{list_all}
 use Rattle.std.proofs.lemmas.Bool.{and_parts, and_from, leb-true, cases_order}
 use Rattle.std.proofs.lemmas.List.{ext_get_or, get_or_append_left, get_or-append_right, get_or-map, length-map, length-append}
 use Rattle.std.proofs.lemmas.List.Folds.{list_all-append}
-use Rattle.order_codes.specs.Places.{Classes}
+use Rattle.order_codes.specs.Dictionary.{Classes}
 use Rattle.cell_layout.specs.declared.cell.Cell.{Cell}
 use Rattle.cell_layout.specs.Image.{CellImage}
 use Rattle.cell_layout.specs.Blocks.{banks_for}
-use Rattle.cell_layout.specs.Valid.{is_cell, is_row_count, are_codes, most_rows, most_cell_rows}
-use Rattle.cell_layout.specs.Kept.{IsKeptCell, cell_kept, row_kept, rows_kept}
-use Rattle.cell_layout.specs.Merging.{HasAppended, IsAbsorbed}
+use Rattle.cell_layout.specs.Valid.{is_cell, is_row_count, are_codes, most_cell_rows}
+use Rattle.blink_lists.specs.declared.limits.TheConstants.{MOST_ROWS}
+use Rattle.cell_layout.specs.CellRepr.{IsCellRepr, cell_image, row_of_codes, rows_of_codes}
+use Rattle.cell_layout.specs.MergeCells.{HasAppended, IsAbsorbed}
 use Rattle.cell_layout.proofs.KeptRows.{length-rows, row_at}
 use Rattle.cell_layout.proofs.Putting.{row_count}
 
@@ -18,8 +19,8 @@ module _ (old new more : List (List ℕ × ℕ)) (a b : ℕ) (full : All (λ (c 
   none : List ℕ × ℕ
   none = ([], 0)
 
-  row-front : (row : ℕ) → row < a → row_kept new row ≡ row_kept old row
-  row-front row lt = ext_get_or 0 (row_kept new row) (row_kept old row)
+  row-front : (row : ℕ) → row < a → row_of_codes new row ≡ row_of_codes old row
+  row-front row lt = ext_get_or 0 (row_of_codes new row) (row_of_codes old row)
       (length-map new (λ (c : List ℕ × ℕ). get_or c.0 row 0) ∙ appended.count ∙ sym (length-map old (λ (c : List ℕ × ℕ). get_or c.0 row 0)))
       (λ k within.
       let n = length-map new (λ (c : List ℕ × ℕ). get_or c.0 row 0) in
@@ -30,8 +31,8 @@ module _ (old new more : List (List ℕ × ℕ)) (a b : ℕ) (full : All (λ (c 
       ∙ get_or_append_left (get_or old k none).0 (get_or more k none).0 0 row (omega arith)
       ∙ sym (get_or-map (λ (c : List ℕ × ℕ). get_or c.0 row 0) old k none 0 (omega arith)))
 
-  row-back : (row : ℕ) → a ≤ row → row_kept new row ≡ row_kept more (row - a)
-  row-back row le = ext_get_or 0 (row_kept new row) (row_kept more (row - a))
+  row-back : (row : ℕ) → a ≤ row → row_of_codes new row ≡ row_of_codes more (row - a)
+  row-back row le = ext_get_or 0 (row_of_codes new row) (row_of_codes more (row - a))
       (length-map new (λ (c : List ℕ × ℕ). get_or c.0 row 0) ∙ appended.count ∙ sym width ∙ sym (length-map more (λ (c : List ℕ × ℕ). get_or c.0 (row - a) 0)))
       (λ k within.
       let n = length-map new (λ (c : List ℕ × ℕ). get_or c.0 row 0) in
@@ -42,23 +43,23 @@ module _ (old new more : List (List ℕ × ℕ)) (a b : ℕ) (full : All (λ (c 
       ∙ get_or-append_right (get_or old k none).0 (get_or more k none).0 a row 0 size le
       ∙ sym (get_or-map (λ (c : List ℕ × ℕ). get_or c.0 (row - a) 0) more k none 0 (omega arith)))
 
-  rows-appended : rows_kept new (a + b) ≡ rows_kept old a ++ rows_kept more b
+  rows-appended : rows_of_codes new (a + b) ≡ rows_of_codes old a ++ rows_of_codes more b
   rows-appended =
       let long = length-rows new (a + b) in
       let front = length-rows old a in
       let back = length-rows more b in
-      let both = length-append (rows_kept old a) (rows_kept more b) in
-      ext_get_or [] (rows_kept new (a + b)) (rows_kept old a ++ rows_kept more b) (omega arith) (λ i lt. row_at new (a + b) i [] (omega arith) ∙ by i (omega arith) (cases_order i a))
+      let both = length-append (rows_of_codes old a) (rows_of_codes more b) in
+      ext_get_or [] (rows_of_codes new (a + b)) (rows_of_codes old a ++ rows_of_codes more b) (omega arith) (λ i lt. row_at new (a + b) i [] (omega arith) ∙ by i (omega arith) (cases_order i a))
     where
-      behind : (i : ℕ) → i < a + b → a ≤ i → row_kept new i ≡ get_or (rows_kept old a ++ rows_kept more b) i []
+      behind : (i : ℕ) → i < a + b → a ≤ i → row_of_codes new i ≡ get_or (rows_of_codes old a ++ rows_of_codes more b) i []
       behind i lt le =
-          row-back i le ∙ sym (row_at more b (i - a) [] (omega arith)) ∙ sym (get_or-append_right (rows_kept old a) (rows_kept more b) a i [] (length-rows old a) le)
+          row-back i le ∙ sym (row_at more b (i - a) [] (omega arith)) ∙ sym (get_or-append_right (rows_of_codes old a) (rows_of_codes more b) a i [] (length-rows old a) le)
 
-      by : (i : ℕ) → i < a + b → (i ≡ a) ⊎ ((i < a) ⊎ (a < i)) → row_kept new i ≡ get_or (rows_kept old a ++ rows_kept more b) i []
+      by : (i : ℕ) → i < a + b → (i ≡ a) ⊎ ((i < a) ⊎ (a < i)) → row_of_codes new i ≡ get_or (rows_of_codes old a ++ rows_of_codes more b) i []
       by i lt (inl e) = behind i lt (omega arith)
       by i lt (inr (inl less)) =
           let front = length-rows old a in
-          row-front i less ∙ sym (row_at old a i [] less) ∙ sym (get_or_append_left (rows_kept old a) (rows_kept more b) [] i (omega arith))
+          row-front i less ∙ sym (row_at old a i [] less) ∙ sym (get_or_append_left (rows_of_codes old a) (rows_of_codes more b) [] i (omega arith))
       by i lt (inr (inr past)) = behind i lt (omega arith)
 
   full-appended : All (λ (c : List ℕ × ℕ). length c.0 ≡ a + b) new
@@ -90,17 +91,17 @@ cell_more columns cell more good more_good same few =
 
 -- a cell that grows by the rows of another
 pub record AbsorbedCell (columns : List Classes) (old new more : Cell) : Type 0 where
-  pub kept : IsKeptCell columns new
-  pub image : cell_kept new ≡ with_rows (cell_kept old) (cell_kept more)
+  pub kept : IsCellRepr columns new
+  pub image : cell_image new ≡ with_rows (cell_image old) (cell_image more)
 
-pub absorbed_cell : (columns : List Classes) (old new more : Cell) → IsKeptCell columns old → IsKeptCell columns more → IsAbsorbed old new more → old.classes ≡ more.classes → old.rows + more.rows ≤ most_rows
+pub absorbed_cell : (columns : List Classes) (old new more : Cell) → IsCellRepr columns old → IsCellRepr columns more → IsAbsorbed old new more → old.classes ≡ more.classes → old.rows + more.rows ≤ MOST_ROWS
     → AbsorbedCell columns old new more
 absorbed_cell columns old new more kept more_kept absorbed same few =
     let width : length more.codes ≡ length old.codes = more_kept.lists ∙ sym kept.lists in
-    let rows : rows_kept new.codes new.rows ≡ rows_kept old.codes old.rows ++ rows_kept more.codes more.rows =
-    ap (rows_kept new.codes) absorbed.rows ∙ rows-appended old.codes new.codes more.codes old.rows more.rows kept.full more_kept.full width absorbed.appended in
+    let rows : rows_of_codes new.codes new.rows ≡ rows_of_codes old.codes old.rows ++ rows_of_codes more.codes more.rows =
+    ap (rows_of_codes new.codes) absorbed.rows ∙ rows-appended old.codes new.codes more.codes old.rows more.rows kept.full more_kept.full width absorbed.appended in
     let classes = absorbed.same_classes in
-    let image : cell_kept new ≡ with_rows (cell_kept old) (cell_kept more) = λ i. record { classes = classes i; rows = rows i } in
+    let image : cell_image new ≡ with_rows (cell_image old) (cell_image more) = λ i. record { classes = classes i; rows = rows i } in
     let n = length-rows old.codes old.rows in
     let m = length-rows more.codes more.rows in
     record {
@@ -108,7 +109,7 @@ absorbed_cell columns old new more kept more_kept absorbed same few =
         plan = absorbed.same_plan ∙ kept.plan ∙ ap (banks_for columns) (sym classes);
         lists = absorbed.appended.count ∙ kept.lists;
         full = subst (λ k. All (λ (c : List ℕ × ℕ). length c.0 ≡ k) new.codes) (sym absorbed.rows) (full-appended old.codes new.codes more.codes old.rows more.rows kept.full more_kept.full width absorbed.appended);
-        good = ap (is_cell columns) image ∙ cell_more columns (cell_kept old) (cell_kept more) kept.good more_kept.good same (omega arith);
+        good = ap (is_cell columns) image ∙ cell_more columns (cell_image old) (cell_image more) kept.good more_kept.good same (omega arith);
       };
       image = image;
     }

@@ -4,18 +4,18 @@ use Rattle.std.proofs.lemmas.Bool.{and_from}
 use Rattle.std.proofs.lemmas.List.{append-nil, map-append, length-append}
 use Rattle.std.proofs.lemmas.List.Elements.{filter-append, All-head, All-tail}
 use Rattle.blink_lists.specs.Lists.{rises}
-use Rattle.blink_base.specs.Compared.{Row}
-use Rattle.order_codes.specs.Places.{Classes}
+use Rattle.blink_base.specs.Values.{Row}
+use Rattle.order_codes.specs.Dictionary.{Classes}
 use Rattle.cell_layout.specs.declared.cell.Cell.{Cell}
 use Rattle.cell_layout.specs.Image.{CodedRow, is_coded, coded}
-use Rattle.cell_layout.specs.Laid.{cell_cmp, same_cell, cells_of}
-use Rattle.cell_layout.specs.Valid.{most_rows}
-use Rattle.cell_layout.specs.Kept.{IsKeptCell, cell_kept}
-use Rattle.cell_layout.specs.Places.{keys_of_cells}
-use Rattle.cell_layout.specs.Placing.{keys_in, Rising}
-use Rattle.cell_layout.specs.Placed.{ArePlaced}
-use Rattle.cell_layout.specs.Putting.{rows_in_all}
-use Rattle.cell_layout.specs.Merging.{AreBothPlaced, IsSameButRoom, AreAlike, AreMerged, lookup}
+use Rattle.cell_layout.specs.Layout.{cell_cmp, same_cell, cells_of}
+use Rattle.blink_lists.specs.declared.limits.TheConstants.{MOST_ROWS}
+use Rattle.cell_layout.specs.CellRepr.{IsCellRepr, cell_image}
+use Rattle.cell_layout.specs.CellIndex.{keys_of_cells}
+use Rattle.cell_layout.specs.InsertRow.{keys_in, Rising}
+use Rattle.cell_layout.specs.RowPartition.{ArePlaced}
+use Rattle.cell_layout.specs.InsertRowRepr.{rows_in_all}
+use Rattle.cell_layout.specs.MergeCells.{AreBothPlaced, IsSameButRoom, AreAlike, AreMerged, lookup}
 use Rattle.cell_layout.proofs.Again.{filled}
 use Rattle.cell_layout.proofs.Placed.{cells_rise}
 use Rattle.cell_layout.proofs.Putting.{keys-kept}
@@ -36,11 +36,11 @@ own_codes-append k rows more =
     ap (map (λ (r : CodedRow). r.codes)) (filter-append (λ (r : CodedRow). same_cell k r.classes) rows more)
     ∙ map-append (λ (r : CodedRow). r.codes) (filter (λ (r : CodedRow). same_cell k r.classes) rows) (filter (λ (r : CodedRow). same_cell k r.classes) more)
 
-kept_filled : (columns : List Classes) (cells : List Cell) → All (IsKeptCell columns) cells → are_filled (map cell_kept cells) ≡ true
+kept_filled : (columns : List Classes) (cells : List Cell) → All (IsCellRepr columns) cells → are_filled (map cell_image cells) ≡ true
 kept_filled columns [] kept = refl
 kept_filled columns (cell ∷ cells) kept =
-    and_from (nat_le 1 (length (cell_kept cell).rows)) (are_filled (map cell_kept cells)) (filled columns (cell_kept cell) (All-head (IsKeptCell columns) cell cells kept).good)
-    (kept_filled columns cells (All-tail (IsKeptCell columns) cell cells kept))
+    and_from (nat_le 1 (length (cell_image cell).rows)) (are_filled (map cell_image cells)) (filled columns (cell_image cell) (All-head (IsCellRepr columns) cell cells kept).good)
+    (kept_filled columns cells (All-tail (IsCellRepr columns) cell cells kept))
 
 -- the rows of both
 pub added_placed : (columns : List Classes) (rows batch : List Row) (old mid new more : List Cell) (rest mid_rest new_rest more_rest : List Row) → IsSameButRoom old rest mid mid_rest → AreMerged mid more new [] → new_rest ≡ mid_rest ++ more_rest
@@ -54,10 +54,10 @@ added_placed columns rows batch old mid new more rest mid_rest new_rest more_res
     let counted_first = first.counted in
     let counted_added = added.counted in
     record {
-      image = same_lookups (map cell_kept new) (cells_of (coded_rows columns (rows ++ batch))) (subst Rising (sym (keys-kept new)) (rising-from (keys_of_cells new) merged.order))
+      image = same_lookups (map cell_image new) (cells_of (coded_rows columns (rows ++ batch))) (subst Rising (sym (keys-kept new)) (rising-from (keys_of_cells new) merged.order))
           (rising-from (keys_in (cells_of (coded_rows columns (rows ++ batch)))) (cells_rise (coded_rows columns (rows ++ batch)))) (kept_filled columns new both.0) (cells_filled (coded_rows columns (rows ++ batch)))
           (λ k.
-          sym (append-nil (lookup k (map cell_kept new))) ∙ merged.found k
+          sym (append-nil (lookup k (map cell_image new))) ∙ merged.found k
           ∙ (λ i. lookup k (first.image i) ++ lookup k (added.image i))
           ∙ (λ i. lookup-cells k (coded_rows columns rows) i ++ lookup-cells k (coded_rows columns batch) i)
           ∙ sym (own_codes-append k (coded_rows columns rows) (coded_rows columns batch))
@@ -80,7 +80,7 @@ both_alike old mid more rest mid_rest more_rest both same = record {
 pub both_rise : (old mid more : List Cell) (rest mid_rest more_rest : List Row) → AreBothPlaced old rest more more_rest → IsSameButRoom old rest mid mid_rest → rises cell_cmp (keys_of_cells mid) ≡ true
 both_rise old mid more rest mid_rest more_rest both same = (same_placed both.columns both.rows old mid rest mid_rest same both.standing).order
 
-pub both_few : (old mid more : List Cell) (rest mid_rest more_rest : List Row) → AreBothPlaced old rest more more_rest → IsSameButRoom old rest mid mid_rest → rows_in_all mid + rows_in_all more ≤ most_rows
+pub both_few : (old mid more : List Cell) (rest mid_rest more_rest : List Row) → AreBothPlaced old rest more more_rest → IsSameButRoom old rest mid mid_rest → rows_in_all mid + rows_in_all more ≤ MOST_ROWS
 both_few old mid more rest mid_rest more_rest both same =
     let first = (same_placed both.columns both.rows old mid rest mid_rest same both.standing).counted in
     let second = both.added.counted in

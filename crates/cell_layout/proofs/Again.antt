@@ -10,16 +10,16 @@ use Rattle.std.proofs.lemmas.Option.{slice_get-get_or}
 use Rattle.blink_lists.specs.Lists.{in_order, once_each, rises, are_distinct}
 use Rattle.blink_base.specs.declared.value.Value.TheVariants.{Int}
 use Rattle.order_codes.specs.declared.place.CodePlace.{CodePlace}
-use Rattle.order_codes.specs.Places.{Classes, are_classes, class_at, place_of_value, decoded}
-use Rattle.order_codes.proofs.Places.{finds_decoded}
+use Rattle.order_codes.specs.Dictionary.{Classes, are_classes, class_at, place_of_value, decoded}
+use Rattle.order_codes.proofs.DictionaryLemmas.{finds_decoded}
 use Rattle.cell_layout.specs.Image.{TableImage, CellImage, CodedRow, places_of, is_coded, coded, decoded_row, cell_rows}
-use Rattle.cell_layout.specs.Laid.{cell_cmp, same_cell, cell_of, cells_of}
+use Rattle.cell_layout.specs.Layout.{cell_cmp, same_cell, cell_of, cells_of}
 use Rattle.cell_layout.specs.Valid.{are_codes, is_row_count, is_cell, is_rest_row}
-use Rattle.blink_base.specs.Fits.{fits}
+use Rattle.blink_base.specs.RowFits.{fits}
 use Rattle.std.proofs.lemmas.Cmp.{nat_list_cmp_total}
 use Rattle.cell_layout.proofs.Passed.{all_weaker}
 use Rattle.cell_layout.proofs.Placed.{valid_parts, divided_classes}
-use Rattle.cell_layout.specs.Again.{StandsPlaced}
+use Rattle.cell_layout.specs.Repartition.{StandsPlaced}
 use Rattle.cell_layout.proofs.InTurn.{in_order_rising, distinct_rises}
 use Rattle.cell_layout.proofs.Cells.{same_itself, same_back}
 use Rattle.cell_layout.proofs.Coded.{are_numbers, below_sizes, row_of}

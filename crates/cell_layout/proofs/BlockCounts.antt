@@ -9,11 +9,12 @@ use Rattle.blink_lists.specs.Lists.{numbered}
 use Rattle.masked_compare.specs.Fields.{lane_holding, fields_bits}
 use Rattle.bank_pack.specs.Banks.{BankColumn, BankColumns, has_room, put_in_first, banks_of, page_blocks, widths_of, blocks_for}
 use Rattle.blink_base.specs.declared.schema.Schema.{Schema}
-use Rattle.blink_base.specs.Compared.{Row}
-use Rattle.order_codes.specs.Places.{Classes, class_width}
+use Rattle.blink_base.specs.Values.{Row}
+use Rattle.order_codes.specs.Dictionary.{Classes, class_width}
 use Rattle.cell_layout.specs.declared.cell.Cell.{Cell}
 use Rattle.cell_layout.specs.Blocks.{cell_widths, cell_blocks}
-use Rattle.cell_layout.specs.Kept.{IsKeptCell, most_image_columns, image_kept, cell_kept}
+use Rattle.cell_layout.specs.CellRepr.{IsCellRepr, image_of, cell_image}
+use Rattle.blink_lists.specs.declared.limits.TheConstants.{MOST_COLUMNS}
 use Rattle.cell_layout.proofs.KeptRows.{length-rows}
 use Rattle.cell_layout.proofs.Numbers.{length-numbered}
 
@@ -50,7 +51,7 @@ banks_few widths =
     omega arith
 
 -- a cell that is kept has few banks
-pub plan_few : (columns : List Classes) (cell : Cell) → IsKeptCell columns cell → length columns ≤ most_image_columns → length cell.plan ≤ most_image_columns
+pub plan_few : (columns : List Classes) (cell : Cell) → IsCellRepr columns cell → length columns ≤ MOST_COLUMNS → length cell.plan ≤ MOST_COLUMNS
 plan_few columns cell kept few =
     let banks = banks_few (cell_widths columns cell.classes) in
     let widths = length-map (zip columns cell.classes) (λ (p : Classes × ℕ). class_width p.0 p.1) in
@@ -62,13 +63,13 @@ abbrev pub blocks_in : Cell → ℕ
 blocks_in cell = blocks_for cell.plan cell.rows
 
 -- the blocks of cells that are kept
-pub blocks_kept : (schema : Schema) (columns : List Classes) (rest : List Row) (others cells : List Cell) → All (IsKeptCell columns) cells
-    → sum_by (cell_blocks (image_kept schema columns others rest)) (map cell_kept cells) ≡ sum_by blocks_in cells
+pub blocks_kept : (schema : Schema) (columns : List Classes) (rest : List Row) (others cells : List Cell) → All (IsCellRepr columns) cells
+    → sum_by (cell_blocks (image_of schema columns others rest)) (map cell_image cells) ≡ sum_by blocks_in cells
 blocks_kept schema columns rest others [] all = refl
 blocks_kept schema columns rest others (c ∷ cells) all =
-    let kept = All-head (IsKeptCell columns) c cells all in
-    let more = blocks_kept schema columns rest others cells (All-tail (IsKeptCell columns) c cells all) in
-    let here : cell_blocks (image_kept schema columns others rest) (cell_kept c) ≡ blocks_in c = rw (← kept.plan, length-rows c.codes c.rows) refl in
-    let left = sum_by-cons (cell_blocks (image_kept schema columns others rest)) (cell_kept c) (map cell_kept cells) in
+    let kept = All-head (IsCellRepr columns) c cells all in
+    let more = blocks_kept schema columns rest others cells (All-tail (IsCellRepr columns) c cells all) in
+    let here : cell_blocks (image_of schema columns others rest) (cell_image c) ≡ blocks_in c = rw (← kept.plan, length-rows c.codes c.rows) refl in
+    let left = sum_by-cons (cell_blocks (image_of schema columns others rest)) (cell_image c) (map cell_image cells) in
     let right = sum_by-cons blocks_in c cells in
     left ∙ (λ i. here i + more i) ∙ sym right

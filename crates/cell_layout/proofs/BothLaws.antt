@@ -3,7 +3,7 @@ use Rattle.cell_layout.specs.Valid.{LaidIsValid, GrownIsValid}
 use Rattle.cell_layout.specs.Image.{rows_of}
 use Rattle.std.proofs.Common.{◌++◌}
 use Rattle.cell_layout.proofs.Placed.{placed_valid, valid_parts}
-use Rattle.cell_layout.specs.Laid.{classes_for}
+use Rattle.cell_layout.specs.Layout.{classes_for}
 use Rattle.cell_layout.proofs.Called.{called_valid}
 
 pub laid_is_valid : LaidIsValid

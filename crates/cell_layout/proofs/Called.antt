@@ -7,19 +7,20 @@ use Rattle.std.proofs.lemmas.List.{length-map, length-take}
 use Rattle.std.proofs.lemmas.List.Folds.{list_all-map}
 use Rattle.std.proofs.lemmas.List.Sums.{sum_by-cons, sum_by-le-sum_by}
 use Rattle.blink_lists.specs.Lists.{in_order, numbers_from, numbered, numbered_from}
-use Rattle.blink_lists.proofs.Rearrangements.{length-rearranged}
+use Rattle.blink_lists.proofs.RearrangementLemmas.{length-rearranged}
 use Rattle.blink_base.specs.declared.value.Value.{Value}
 use Rattle.blink_base.specs.declared.value.Value.TheVariants.{Int}
 use Rattle.blink_base.specs.declared.schema.Column.{Column}
 use Rattle.blink_base.specs.declared.schema.Schema.{Schema}
-use Rattle.blink_base.specs.Compared.{Row}
-use Rattle.blink_base.specs.Fits.{is_entry, fits}
-use Rattle.blink_histogram.specs.Ranked.{Counted, ranked}
-use Rattle.freq_partition.specs.Division.{chosen_columns, most_divided, saving_cmp, saving_of}
-use Rattle.order_codes.specs.Places.{Classes}
+use Rattle.blink_base.specs.Values.{Row}
+use Rattle.blink_base.specs.RowFits.{is_entry, fits}
+use Rattle.blink_histogram.specs.Ranks.{Counted, ranked}
+use Rattle.freq_partition.specs.Division.{chosen_columns, saving_cmp, saving_of}
+use Rattle.blink_lists.specs.declared.limits.TheConstants.{MOST_DIVIDED, MOST_ROWS}
+use Rattle.order_codes.specs.Dictionary.{Classes}
 use Rattle.cell_layout.specs.Image.{column_values}
-use Rattle.cell_layout.specs.Laid.{in_pieces, classes_by, division_if, counts_of, divided_columns, classes_for}
-use Rattle.cell_layout.specs.Valid.{are_column_classes, are_divided, most_rows, most_divided_columns}
+use Rattle.cell_layout.specs.Layout.{in_pieces, classes_by, division_if, counts_of, divided_columns, classes_for}
+use Rattle.cell_layout.specs.Valid.{are_column_classes, are_divided}
 use Rattle.cell_layout.proofs.Numbers.{length-numbers, length-numbered}
 use Rattle.cell_layout.proofs.Passed.{all_weaker, all_swapped}
 use Rattle.cell_layout.proofs.Groups.{in_order-rearranged}
@@ -38,7 +39,7 @@ are_entries rows p = list_all (is_entry p.1.kind) (column_values rows p.0)
 length-column_values : (rows : List Row) (i : ℕ) → length (column_values rows i) ≡ length rows
 length-column_values rows i = length-map rows (λ (row : Row). get_or row i (Int (pos 0)))
 
-each_column : (chosen : List ℕ) (rows : List Row) (columns : List Column) (i : ℕ) → length rows ≤ most_rows → list_all (are_entries rows) (numbered_from i columns) ≡ true
+each_column : (chosen : List ℕ) (rows : List Row) (columns : List Column) (i : ℕ) → length rows ≤ MOST_ROWS → list_all (are_entries rows) (numbered_from i columns) ≡ true
     → list_all (λ p. are_column_classes p.0 p.1) (zip columns (map (classes_at chosen) (numbered_from i (map (λ column. ranked (column_values rows column)) (numbers_from i (length columns)))))) ≡ true
 each_column chosen rows [] i few all = refl
 each_column chosen rows (column ∷ columns) i few all =
@@ -111,11 +112,11 @@ count_chosen (k ∷ chosen) i xs =
     let rest = count_chosen chosen i xs in
     omega arith
 
-few_chosen : (savings : List ℕ) → length (chosen_columns savings) ≤ most_divided
+few_chosen : (savings : List ℕ) → length (chosen_columns savings) ≤ MOST_DIVIDED
 few_chosen savings = few (map (λ p. p.0) (in_order saving_cmp (filter (λ p. nat_lt 0 p.1) (numbered savings))))
   where
-    few : (xs : List ℕ) → length (in_order nat_cmp (take most_divided xs)) ≤ most_divided
-    few xs = let long = length-rearranged (in_order-rearranged nat_cmp (take most_divided xs)) in let short = length-take most_divided xs in omega arith
+    few : (xs : List ℕ) → length (in_order nat_cmp (take MOST_DIVIDED xs)) ≤ MOST_DIVIDED
+    few xs = let long = length-rearranged (in_order-rearranged nat_cmp (take MOST_DIVIDED xs)) in let short = length-take MOST_DIVIDED xs in omega arith
 
 count-map : {X Y : Type 0} (q : Y → Bool) (f : X → Y) (xs : List X) → count_by q (map f xs) ≡ count_by (λ x. q (f x)) xs
 count-map q f [] = refl
@@ -138,7 +139,7 @@ divided_chosen chosen p =
         at_most false = omega arith
     by false long = let one : nat_lt 1 (length (classes_by p.1 (division_if false (counts_of p.1)).sizes)) ≡ false = ap (nat_lt 1) (long false) ∙ one_if_not (counts_of p.1) in rw one (omega arith)
 
-few_divided : (columns : List (List Counted)) → count_by (λ classes. nat_lt 1 (length classes)) (divided_columns columns) ≤ most_divided_columns
+few_divided : (columns : List (List Counted)) → count_by (λ classes. nat_lt 1 (length classes)) (divided_columns columns) ≤ MOST_DIVIDED
 few_divided columns =
     let chosen = chosen_columns (map (λ values. saving_of (counts_of values)) columns) in
     let same = count-map (λ (classes : Classes). nat_lt 1 (length classes)) (classes_at chosen) (numbered columns) in
@@ -148,13 +149,13 @@ few_divided columns =
     omega arith
 
 -- the classes that rows call for are valid
-pub called_valid : (schema : Schema) (rows : List Row) → length rows ≤ most_rows → list_all (fits schema) rows ≡ true → are_divided schema (classes_for schema rows) ≡ true
+pub called_valid : (schema : Schema) (rows : List Row) → length rows ≤ MOST_ROWS → list_all (fits schema) rows ≡ true → are_divided schema (classes_for schema rows) ≡ true
 called_valid schema rows few fit =
     let values = map (λ column. ranked (column_values rows column)) (numbers_from 0 (length schema.columns)) in
     let chosen = chosen_columns (map (λ v. saving_of (counts_of v)) values) in
     let columns = divided_columns values in
     let long : length columns ≡ length schema.columns =
     length-map (numbered values) (classes_at chosen) ∙ length-numbered 0 values ∙ length-numbers (λ column. ranked (column_values rows column)) 0 (length schema.columns) in
-    and_from (length columns == length schema.columns && list_all (λ p. are_column_classes p.0 p.1) (zip schema.columns columns)) (nat_le (count_by (λ classes. nat_lt 1 (length classes)) columns) most_divided_columns)
+    and_from (length columns == length schema.columns && list_all (λ p. are_column_classes p.0 p.1) (zip schema.columns columns)) (nat_le (count_by (λ classes. nat_lt 1 (length classes)) columns) MOST_DIVIDED)
     (and_from (length columns == length schema.columns) (list_all (λ p. are_column_classes p.0 p.1) (zip schema.columns columns)) (eq-eqb _ _ long) (each_column chosen rows schema.columns 0 few (fits_entries schema rows fit)))
     (le-leb _ _ (few_divided values))

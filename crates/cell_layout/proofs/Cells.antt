@@ -5,14 +5,14 @@ use Rattle.std.specs.List.{list_all, list_any, flat_map}
 use Rattle.std.proofs.lemmas.Cmp.{nat_list_cmp_total, eq_by_cmp_equiv}
 use Rattle.std.proofs.lemmas.Map.Lookups.{exact_bytes}
 use Rattle.blink_lists.specs.Lists.{in_order, once_each, are_distinct}
-use Rattle.blink_lists.specs.Rearranged.{Rearranged}
-use Rattle.blink_lists.specs.Rearranged.Rearranged.{followed}
-use Rattle.blink_lists.proofs.Rearrangements.{map-rearranged, behind}
-use Rattle.blink_base.specs.Compared.{Row}
-use Rattle.order_codes.specs.Places.{Classes, are_classes}
-use Rattle.order_codes.proofs.Rising.{equal_is}
+use Rattle.blink_lists.specs.Rearrangement.{Rearranged}
+use Rattle.blink_lists.specs.Rearrangement.Rearranged.{followed}
+use Rattle.blink_lists.proofs.RearrangementLemmas.{map-rearranged, behind}
+use Rattle.blink_base.specs.Values.{Row}
+use Rattle.order_codes.specs.Dictionary.{Classes, are_classes}
+use Rattle.order_codes.proofs.ValueRankLemmas.{equal_is}
 use Rattle.cell_layout.specs.Image.{TableImage, CodedRow, is_coded, coded, decoded_row, cell_rows, rows_of}
-use Rattle.cell_layout.specs.Laid.{cell_cmp, same_cell, cell_of, cells_of, placed}
+use Rattle.cell_layout.specs.Layout.{cell_cmp, same_cell, cell_of, cells_of, placed}
 use Rattle.cell_layout.proofs.Passed.{any-rearranged, all_weaker, all_both, all-filter, all_kept, distinct-once_each, distinct-rearranged}
 use Rattle.cell_layout.proofs.Groups.{of_key, has_keys, grouped, distinct_keys, in_order-rearranged, parted}
 use Rattle.cell_layout.proofs.Coded.{is_whole, all_back}

@@ -4,17 +4,18 @@ use Rattle.std.specs.List.{list_all}
 use Rattle.std.proofs.lemmas.Bool.{and_parts, and_from, le-leb, leb-true}
 use Rattle.std.proofs.lemmas.List.{length-map, map-append, take-append-drop, length-take-le, length-drop}
 use Rattle.blink_lists.specs.Lists.{in_order, rises, are_distinct, joined}
-use Rattle.blink_lists.specs.Rearranged.{Rearranged}
-use Rattle.blink_lists.specs.Rearranged.Rearranged.{none, followed}
-use Rattle.blink_lists.proofs.Rearrangements.{in_front, behind, length-rearranged}
+use Rattle.blink_lists.specs.Rearrangement.{Rearranged}
+use Rattle.blink_lists.specs.Rearrangement.Rearranged.{none, followed}
+use Rattle.blink_lists.proofs.RearrangementLemmas.{in_front, behind, length-rearranged}
 use Rattle.blink_base.specs.declared.value.Value.{Value}
-use Rattle.blink_base.specs.Compared.{value_cmp, same_value}
-use Rattle.blink_base.specs.Order.{value_total}
-use Rattle.blink_histogram.specs.Ranked.{Counted}
-use Rattle.order_codes.specs.Places.{is_class, most_values}
-use Rattle.order_codes.proofs.Apart.{distinct-append, meet}
-use Rattle.freq_partition.proofs.Sums.{sum-cons}
-use Rattle.cell_layout.specs.Laid.{in_pieces}
+use Rattle.blink_base.specs.Values.{value_cmp, same_value}
+use Rattle.blink_base.specs.ValueOrder.{value_total}
+use Rattle.blink_histogram.specs.Ranks.{Counted}
+use Rattle.order_codes.specs.Dictionary.{is_class}
+use Rattle.blink_lists.specs.declared.limits.TheConstants.{MOST_ROWS}
+use Rattle.order_codes.proofs.ClassListLemmas.{distinct-append, meet}
+use Rattle.freq_partition.proofs.PrefixSumLemmas.{sum-cons}
+use Rattle.cell_layout.specs.Layout.{in_pieces}
 use Rattle.cell_layout.proofs.Groups.{in_order-rearranged}
 use Rattle.cell_layout.proofs.InTurn.{rises-in_order}
 
@@ -60,17 +61,17 @@ pieces-joined (piece ∷ pieces) =
     (followed (behind (map (λ c. c.0) (joined pieces)) (in_order-rearranged value_cmp (map (λ c. c.0) piece))) (in_front (class_of_piece piece) (pieces-joined pieces)))
 
 -- and rise
-pub all_classes_of : (pieces : List (List Counted)) → list_all (is_piece most_values) pieces ≡ true → are_distinct same_value (map (λ c. c.0) (joined pieces)) ≡ true → list_all is_class (map class_of_piece pieces) ≡ true
+pub all_classes_of : (pieces : List (List Counted)) → list_all (is_piece MOST_ROWS) pieces ≡ true → are_distinct same_value (map (λ c. c.0) (joined pieces)) ≡ true → list_all is_class (map class_of_piece pieces) ≡ true
 all_classes_of [] each apart = refl
 all_classes_of (piece ∷ pieces) each apart =
-    let parts = and_parts (is_piece most_values piece) (list_all (is_piece most_values) pieces) each in
-    let sized = and_parts (nat_le 1 (length piece)) (nat_le (length piece) most_values) parts.0 in
+    let parts = and_parts (is_piece MOST_ROWS piece) (list_all (is_piece MOST_ROWS) pieces) each in
+    let sized = and_parts (nat_le 1 (length piece)) (nat_le (length piece) MOST_ROWS) parts.0 in
     let values = map (λ (c : Counted). c.0) piece in
     let rest = map (λ (c : Counted). c.0) (joined pieces) in
     let split = rw (map-append (λ (c : Counted). c.0) piece (joined pieces)) at apart in
     let both = and_parts (are_distinct same_value values) (are_distinct same_value rest && not (meet same_value values rest)) (sym (distinct-append same_value values rest) ∙ split) in
     let long : length (class_of_piece piece) ≡ length piece = sym (length-rearranged (in_order-rearranged value_cmp values)) ∙ length-map piece (λ (c : Counted). c.0) in
     and_from (is_class (class_of_piece piece)) (list_all is_class (map class_of_piece pieces))
-    (and_from (nat_le 1 (length (class_of_piece piece)) && nat_le (length (class_of_piece piece)) most_values) (rises value_cmp (class_of_piece piece))
-    (rw long (and_from (nat_le 1 (length piece)) (nat_le (length piece) most_values) sized.0 sized.1)) (rises-in_order value_cmp value_total values both.0))
+    (and_from (nat_le 1 (length (class_of_piece piece)) && nat_le (length (class_of_piece piece)) MOST_ROWS) (rises value_cmp (class_of_piece piece))
+    (rw long (and_from (nat_le 1 (length piece)) (nat_le (length piece) MOST_ROWS) sized.0 sized.1)) (rises-in_order value_cmp value_total values both.0))
     (all_classes_of pieces parts.1 (and_parts (are_distinct same_value rest) (not (meet same_value values rest)) both.1).0)

@@ -4,10 +4,10 @@ use Rattle.std.specs.List.{list_all, zip, filter_map}
 use Rattle.std.specs.Option.{is_some}
 use Rattle.std.proofs.lemmas.Bool.{and_parts, and_from, lt-ltb, eq-eqb, eqb-true}
 use Rattle.blink_base.specs.declared.value.Value.{Value}
-use Rattle.blink_base.specs.Compared.{Row}
+use Rattle.blink_base.specs.Values.{Row}
 use Rattle.order_codes.specs.declared.place.CodePlace.{CodePlace}
-use Rattle.order_codes.specs.Places.{Classes, are_classes, class_at, place_of_value}
-use Rattle.order_codes.proofs.Places.{decodes_found, found_within}
+use Rattle.order_codes.specs.Dictionary.{Classes, are_classes, class_at, place_of_value}
+use Rattle.order_codes.proofs.DictionaryLemmas.{decodes_found, found_within}
 use Rattle.cell_layout.specs.Image.{CodedRow, places_of, is_coded, coded, decoded_row}
 use Rattle.cell_layout.specs.Valid.{are_codes}
 

@@ -5,17 +5,17 @@ use Rattle.std.proofs.lemmas.Bool.{and_parts, and_from, eqb-true}
 use Rattle.std.proofs.lemmas.Cmp.{eq_by_cmp_equiv}
 use Rattle.std.proofs.lemmas.List.{length-map}
 use Rattle.blink_lists.specs.Lists.{once_each, are_distinct, joined}
-use Rattle.blink_lists.specs.Rearranged.{Rearranged}
-use Rattle.blink_lists.proofs.Rearrangements.{map-rearranged, length-rearranged}
+use Rattle.blink_lists.specs.Rearrangement.{Rearranged}
+use Rattle.blink_lists.proofs.RearrangementLemmas.{map-rearranged, length-rearranged}
 use Rattle.blink_base.specs.declared.value.Value.{Value}
 use Rattle.blink_base.specs.declared.value.Kind.{Kind}
-use Rattle.blink_base.specs.Compared.{same_value}
-use Rattle.blink_base.specs.Order.{value_total}
-use Rattle.blink_base.specs.Fits.{is_entry}
-use Rattle.blink_histogram.specs.Ranked.{Counted, distinct_values, count_of, counted, rank_cmp, ranked}
-use Rattle.order_codes.specs.Places.{is_class, are_classes, most_values}
-use Rattle.cell_layout.specs.Laid.{in_pieces, classes_by, division_if, counts_of}
-use Rattle.cell_layout.specs.Valid.{most_rows}
+use Rattle.blink_base.specs.Values.{same_value}
+use Rattle.blink_base.specs.ValueOrder.{value_total}
+use Rattle.blink_base.specs.RowFits.{is_entry}
+use Rattle.blink_histogram.specs.Ranks.{Counted, distinct_values, count_of, counted, rank_cmp, ranked}
+use Rattle.order_codes.specs.Dictionary.{is_class, are_classes}
+use Rattle.blink_lists.specs.declared.limits.TheConstants.{MOST_ROWS}
+use Rattle.cell_layout.specs.Layout.{in_pieces, classes_by, division_if, counts_of}
 use Rattle.cell_layout.proofs.Passed.{all-rearranged, all-once_each, distinct-once_each, distinct-rearranged, length-filter-le}
 use Rattle.cell_layout.proofs.Groups.{in_order-rearranged}
 use Rattle.cell_layout.proofs.Sizes.{sizes_if}
@@ -68,7 +68,7 @@ has_pieces chosen column =
       all = eqb-true (sum sizes) (length counts) good.1 ∙ length-map (ranked column) (λ (c : Counted). c.1);
     }
 
-by_pieces : (column : List Value) (sizes : List ℕ) → HasPieces column sizes → length column ≤ most_rows → are_classes (classes_by (ranked column) sizes) ≡ true
+by_pieces : (column : List Value) (sizes : List ℕ) → HasPieces column sizes → length column ≤ MOST_ROWS → are_classes (classes_by (ranked column) sizes) ≡ true
 by_pieces column sizes has few =
     let values = ranked column in
     let pieces = in_pieces sizes values in
@@ -78,7 +78,7 @@ by_pieces column sizes has few =
     let low = length-ranked-le column in
     let long : length classes ≡ length sizes = length-map pieces class_of_piece ∙ length-in_pieces sizes values in
     and_from (nat_le (length classes) 4 && list_all is_class classes) (are_distinct same_value (joined classes))
-    (and_from (nat_le (length classes) 4) (list_all is_class classes) (ap (λ n. nat_le n 4) long ∙ has.few) (all_classes_of pieces (all_pieces most_values sizes values (omega arith) has.each has.all) apart))
+    (and_from (nat_le (length classes) 4) (list_all is_class classes) (ap (λ n. nat_le n 4) long ∙ has.few) (all_classes_of pieces (all_pieces MOST_ROWS sizes values (omega arith) has.each has.all) apart))
     (sym (distinct-rearranged same_value same_value_back (pieces-joined pieces)) ∙ apart)
 
 entries : (kind : Kind) (column : List Value) (sizes : List ℕ) → HasPieces column sizes → list_all (is_entry kind) column ≡ true → list_all (is_entry kind) (joined (classes_by (ranked column) sizes)) ≡ true
@@ -90,11 +90,11 @@ entries kind column sizes has all =
     ∙ all-once_each same_value (is_entry kind) column all
 
 -- the classes of a column's values are classes
-pub divided_are_classes : (chosen : Bool) (column : List Value) → length column ≤ most_rows → are_classes (classes_by (ranked column) (division_if chosen (counts_of (ranked column))).sizes) ≡ true
+pub divided_are_classes : (chosen : Bool) (column : List Value) → length column ≤ MOST_ROWS → are_classes (classes_by (ranked column) (division_if chosen (counts_of (ranked column))).sizes) ≡ true
 divided_are_classes chosen column few = by_pieces column (division_if chosen (counts_of (ranked column))).sizes (has_pieces chosen column) few
 
 -- the classes of a column's values are valid
-pub column_classes : (chosen : Bool) (kind : Kind) (column : List Value) → list_all (is_entry kind) column ≡ true → length column ≤ most_rows
+pub column_classes : (chosen : Bool) (kind : Kind) (column : List Value) → list_all (is_entry kind) column ≡ true → length column ≤ MOST_ROWS
     → (are_classes (classes_by (ranked column) (division_if chosen (counts_of (ranked column))).sizes) && list_all (is_entry kind) (joined (classes_by (ranked column) (division_if chosen (counts_of (ranked column))).sizes))) ≡ true
 column_classes chosen kind column all few =
     let sizes = (division_if chosen (counts_of (ranked column))).sizes in

@@ -7,15 +7,15 @@ use Rattle.std.proofs.lemmas.Bool.{and_parts, eqb-true, leb-true}
 use Rattle.std.proofs.lemmas.List.{get_or-map, length-map, take_more}
 use Rattle.blink_lists.specs.Lists.{numbered}
 use Rattle.blink_base.specs.declared.value.Value.{Value}
-use Rattle.blink_base.specs.Compared.{Row}
-use Rattle.blink_histogram.specs.Ranked.{Counted, ranked}
-use Rattle.freq_partition.specs.Division.{best_division, saving_of, chosen_columns, padded, most_classes}
-use Rattle.order_codes.specs.Places.{Classes, are_classes}
+use Rattle.blink_base.specs.Values.{Row}
+use Rattle.blink_histogram.specs.Ranks.{Counted, ranked}
+use Rattle.freq_partition.specs.Division.{best_division, saving_of, chosen_columns, padded}
+use Rattle.blink_lists.specs.declared.limits.TheConstants.{MOST_CLASSES, MOST_ROWS}
+use Rattle.order_codes.specs.Dictionary.{Classes, are_classes}
 use Rattle.cell_layout.specs.Image.{column_values}
-use Rattle.cell_layout.specs.Laid.{classes_by, classes_if, counts_of, division_if, divided_columns, ranked_columns}
-use Rattle.cell_layout.specs.Ranking.{IsRanked, IsColumn}
-use Rattle.cell_layout.specs.declared.ranks.RankedColumn.{RankedColumn}
-use Rattle.cell_layout.specs.Valid.{most_rows}
+use Rattle.cell_layout.specs.Layout.{classes_by, classes_if, counts_of, division_if, divided_columns, ranked_columns}
+use Rattle.cell_layout.specs.ColumnStats.{IsRanked, IsColumn}
+use Rattle.cell_layout.specs.declared.column_stats.RankedColumn.{RankedColumn}
 use Rattle.cell_layout.proofs.Numbers.{numbers-at, length-numbers, numbered-at, length-numbered}
 use Rattle.cell_layout.proofs.Sizes.{sizes_if}
 use Rattle.cell_layout.proofs.Columns.{divided_are_classes, length-ranked-le}
@@ -95,12 +95,12 @@ sizes_one it values is some =
 pub few_sizes : (it : RankedColumn) (values : List Counted) → IsRanked values it → it.cut.count ≤ 4
 few_sizes it values is =
     let sizes = (best_division (counts_of values)).sizes in
-    let all = and_parts (nat_le (length sizes) most_classes && list_all (nat_le 1) sizes) (sum sizes == length (counts_of values)) (sizes_if true (counts_of values)) in
-    let few = leb-true (length sizes) most_classes (and_parts (nat_le (length sizes) most_classes) (list_all (nat_le 1) sizes) all.0).0 in
+    let all = and_parts (nat_le (length sizes) MOST_CLASSES && list_all (nat_le 1) sizes) (sum sizes == length (counts_of values)) (sizes_if true (counts_of values)) in
+    let few = leb-true (length sizes) MOST_CLASSES (and_parts (nat_le (length sizes) MOST_CLASSES) (list_all (nat_le 1) sizes) all.0).0 in
     let same = is.cut_count in
     omega arith
 
-pub numbers_few : (it : RankedColumn) → IsColumn it → length it.numbers ≤ most_rows
+pub numbers_few : (it : RankedColumn) → IsColumn it → length it.numbers ≤ MOST_ROWS
 numbers_few it has =
     let long = numbers-long it (ranked has.0) has.2 in
     let few = length-ranked-le has.0 in
@@ -111,7 +111,7 @@ numbers_few it has =
 pub sizes_within : (it : RankedColumn) (values : List Counted) (divided : Bool) (sizes : List ℕ) → IsRanked values it → sizes ≡ (division_if divided (counts_of values)).sizes → sum sizes ≤ length it.numbers
 sizes_within it values divided sizes is same =
     let d = (division_if divided (counts_of values)).sizes in
-    let all = and_parts (nat_le (length d) most_classes && list_all (nat_le 1) d) (sum d == length (counts_of values)) (sizes_if divided (counts_of values)) in
+    let all = and_parts (nat_le (length d) MOST_CLASSES && list_all (nat_le 1) d) (sum d == length (counts_of values)) (sizes_if divided (counts_of values)) in
     let total : sum sizes ≡ length (counts_of values) = ap sum same ∙ eqb-true (sum d) (length (counts_of values)) all.1 in
     let long = numbers-long it values is in
     let counts = counts-long values in

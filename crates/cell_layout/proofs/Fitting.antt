@@ -7,21 +7,22 @@ use Rattle.std.specs.Str.{bytes_eq}
 use Rattle.std.proofs.lemmas.List.{length-append, length-map}
 use Rattle.std.proofs.lemmas.List.Sums.{sum_by-cons}
 use Rattle.std.proofs.lemmas.Option.{slice_get-get_or}
-use Rattle.blink_base.specs.Words.{is_name}
+use Rattle.blink_base.specs.Identifiers.{is_name}
 use Rattle.blink_lists.specs.Lists.{joined, are_distinct}
 use Rattle.blink_base.specs.declared.value.Value.{Value}
 use Rattle.blink_base.specs.declared.value.Value.TheVariants.{Int}
 use Rattle.blink_base.specs.declared.schema.Column.{Column}
 use Rattle.blink_base.specs.declared.schema.Schema.{Schema}
-use Rattle.blink_base.specs.Compared.{Row}
-use Rattle.blink_base.specs.Fits.{fits, is_entry}
-use Rattle.order_codes.specs.Places.{Classes, are_classes, class_at, decoded}
+use Rattle.blink_base.specs.Values.{Row}
+use Rattle.blink_base.specs.RowFits.{fits, is_entry, is_schema, is_key_of}
+use Rattle.order_codes.specs.Dictionary.{Classes, are_classes, class_at, decoded}
 use Rattle.cell_layout.specs.declared.cell.Cell.{Cell}
-use Rattle.cell_layout.specs.Kept.{image_kept, cell_kept}
+use Rattle.cell_layout.specs.CellRepr.{image_of, cell_image}
 use Rattle.cell_layout.specs.Image.{TableImage, CellImage, decoded_row, cell_rows, rows_of, row_count, is_coded}
-use Rattle.cell_layout.specs.Laid.{empty_image}
+use Rattle.cell_layout.specs.Layout.{empty_image}
 use Rattle.cell_layout.specs.Refusals.{duplicate_in}
-use Rattle.cell_layout.specs.Valid.{is_schema, is_key_of, are_column_classes, are_divided, are_codes, is_cell, is_row_count, is_rest_row, is_valid, are_keyed, most_rows, most_columns, most_divided_columns, MayHold}
+use Rattle.cell_layout.specs.Valid.{are_column_classes, are_divided, are_codes, is_cell, is_row_count, is_rest_row, is_valid, are_keyed, MayHold}
+use Rattle.blink_lists.specs.declared.limits.TheConstants.{MOST_ROWS, MOST_COLUMNS, MOST_DIVIDED}
 use Rattle.cell_layout.proofs.Passed.{all_weaker}
 use Rattle.cell_layout.proofs.Coded.{below_sizes, are_numbers}
 use Rattle.cell_layout.proofs.Sizes.{all-flat_map}
@@ -88,7 +89,7 @@ fits_long schema rows n all same k d lt =
     eqb-true (length (get_or rows k d)) (length schema.columns) (and_parts (length (get_or rows k d) == length schema.columns) _ here).0 ∙ sym same
 
 -- what may stand behind the rows of a valid image
-pub may_hold : (image : TableImage) (batch : List Row) → is_valid image ≡ true → list_all (fits image.schema) batch ≡ true → row_count image + length batch ≤ most_rows → duplicate_in image.schema.key (rows_of image) batch ≡ None
+pub may_hold : (image : TableImage) (batch : List Row) → is_valid image ≡ true → list_all (fits image.schema) batch ≡ true → row_count image + length batch ≤ MOST_ROWS → duplicate_in image.schema.key (rows_of image) batch ≡ None
     → MayHold image.schema (rows_of image ++ batch)
 may_hold image batch valid fit few new =
     let has = valid_parts image valid in
@@ -102,7 +103,7 @@ may_hold image batch valid fit few new =
 
 -- what a schema may have
 pub record HasBounds (schema : Schema) : Type 0 where
-  pub few : length schema.columns ≤ most_columns
+  pub few : length schema.columns ≤ MOST_COLUMNS
   pub key : IfSome schema.key (λ k. k < length schema.columns)
 
 pub schema_bounds : (schema : Schema) → is_schema schema ≡ true → HasBounds schema
@@ -110,8 +111,8 @@ schema_bounds schema allowed =
     let five = and_parts _ (is_key_of schema.columns schema.key) allowed in
     let four = and_parts _ (are_distinct bytes_eq (map (λ c. c.name) schema.columns)) five.0 in
     let three = and_parts _ (list_all (λ c. is_name c.name) schema.columns) four.0 in
-    let two = and_parts (nat_le 1 (length schema.columns)) (nat_le (length schema.columns) most_columns) three.0 in
-    record { few = leb-true (length schema.columns) most_columns two.1; key = by schema.key five.1 }
+    let two = and_parts (nat_le 1 (length schema.columns)) (nat_le (length schema.columns) MOST_COLUMNS) three.0 in
+    record { few = leb-true (length schema.columns) MOST_COLUMNS two.1; key = by schema.key five.1 }
   where
     by : (key : Option ℕ) → is_key_of schema.columns key ≡ true → IfSome key (λ k. k < length schema.columns)
     by None e = tt
@@ -126,8 +127,8 @@ no_classes : (columns : List Column) → list_all (λ p. are_column_classes p.0 
 no_classes [] = refl
 no_classes (c ∷ columns) = no_classes columns
 
-none_divided : (columns : List Column) → nat_le (count_by (λ (classes : Classes). nat_lt 1 (length classes)) (map (λ c. []) columns)) most_divided_columns ≡ true
-none_divided columns = let none = zero_of columns in le-leb (count_by (λ (classes : Classes). nat_lt 1 (length classes)) (map (λ c. []) columns)) most_divided_columns (omega arith)
+none_divided : (columns : List Column) → nat_le (count_by (λ (classes : Classes). nat_lt 1 (length classes)) (map (λ c. []) columns)) MOST_DIVIDED ≡ true
+none_divided columns = let none = zero_of columns in le-leb (count_by (λ (classes : Classes). nat_lt 1 (length classes)) (map (λ c. []) columns)) MOST_DIVIDED (omega arith)
   where
     zero_of : (columns : List Column) → count_by (λ (classes : Classes). nat_lt 1 (length classes)) (map (λ c. []) columns) ≡ 0
     zero_of [] = refl
@@ -145,10 +146,10 @@ empty_valid schema allowed =
     keyed None = refl
     keyed (Some k) = refl
 
-pub empty_kept : (schema : Schema) (list : List Column) (columns : List Classes) (cells : List Cell) (rest : List Row) → is_schema schema ≡ true → list ≡ schema.columns → columns ≡ map (λ column. []) list → cells ≡ [] → rest ≡ [] → is_valid (image_kept schema columns cells rest) ≡ true
+pub empty_kept : (schema : Schema) (list : List Column) (columns : List Classes) (cells : List Cell) (rest : List Row) → is_schema schema ≡ true → list ≡ schema.columns → columns ≡ map (λ column. []) list → cells ≡ [] → rest ≡ [] → is_valid (image_of schema columns cells rest) ≡ true
 empty_kept schema list columns cells rest allowed seen no_classes_yet no_cells no_rest = ap is_valid same ∙ empty_valid schema allowed
   where
-    same : image_kept schema columns cells rest ≡ empty_image schema
+    same : image_of schema columns cells rest ≡ empty_image schema
     same =
         let made : columns ≡ map none_of schema.columns = no_classes_yet ∙ ap (map none_of) seen in
-        λ i. record { schema = schema; columns = made i; cells = map cell_kept (no_cells i); rest = no_rest i }
+        λ i. record { schema = schema; columns = made i; cells = map cell_image (no_cells i); rest = no_rest i }

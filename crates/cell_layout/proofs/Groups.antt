@@ -5,9 +5,9 @@ use Rattle.std.proofs.lemmas.Bool.{and_parts, and_from, or_left, or_right, or_pa
 use Rattle.std.specs.declared.cmp.Ordering.{Ordering}
 use Rattle.std.specs.Ordering.{is_le}
 use Rattle.blink_lists.specs.Lists.{once_each, are_distinct, put_in_order, in_order}
-use Rattle.blink_lists.specs.Rearranged.{Rearranged}
-use Rattle.blink_lists.specs.Rearranged.Rearranged.{none, kept, swapped, followed}
-use Rattle.blink_lists.proofs.Rearrangements.{itself, in_front}
+use Rattle.blink_lists.specs.Rearrangement.{Rearranged}
+use Rattle.blink_lists.specs.Rearrangement.Rearranged.{none, kept, swapped, followed}
+use Rattle.blink_lists.proofs.RearrangementLemmas.{itself, in_front}
 use Rattle.cell_layout.proofs.Passed.{all_weaker, any-filter}
 
 module _ {X : Type 0} where

@@ -3,27 +3,28 @@ use Rattle.std.proofs.Common.{◌≡◌, ◌≤◌, ◌<◌, ℕ, ◌+◌, true,
 use Rattle.std.specs.List.{list_all}
 use Rattle.std.proofs.lemmas.Bool.{lt-ltb, le-ltb, ltb-true, ltb-false}
 use Rattle.blink_base.specs.declared.schema.Schema.{Schema}
-use Rattle.blink_base.specs.Compared.{Row}
-use Rattle.blink_base.specs.Fits.{fits}
-use Rattle.order_codes.specs.Places.{Classes}
+use Rattle.blink_base.specs.Values.{Row}
+use Rattle.blink_base.specs.RowFits.{fits, is_schema}
+use Rattle.order_codes.specs.Dictionary.{Classes}
 use Rattle.cell_layout.specs.declared.cell.Cell.{Cell}
 use Rattle.cell_layout.specs.declared.fault.LayoutError.{LayoutError}
 use Rattle.cell_layout.specs.declared.fault.LayoutError.TheVariants.{Rows}
 use Rattle.cell_layout.specs.Image.{TableImage, rows_of, row_count, is_coded, coded}
-use Rattle.cell_layout.specs.Laid.{cells_of, placed, grown}
-use Rattle.cell_layout.specs.Kept.{image_kept, IsKept, cell_kept}
-use Rattle.cell_layout.specs.Placed.{ArePlaced}
+use Rattle.cell_layout.specs.Layout.{cells_of, placed, grown}
+use Rattle.cell_layout.specs.CellRepr.{image_of, IsImageRepr, cell_image}
+use Rattle.cell_layout.specs.RowPartition.{ArePlaced}
 use Rattle.cell_layout.specs.Refusals.{duplicate_in, refusal_of}
 use Rattle.cell_layout.specs.Standing.{all_rows}
-use Rattle.cell_layout.specs.Valid.{is_schema, is_valid, most_rows, MayHold}
-use Rattle.blink_lists.specs.Rearranged.{Rearranged}
+use Rattle.cell_layout.specs.Valid.{is_valid, MayHold}
+use Rattle.blink_lists.specs.declared.limits.TheConstants.{MOST_ROWS}
+use Rattle.blink_lists.specs.Rearrangement.{Rearranged}
 use Rattle.cell_layout.proofs.Again.{stands_placed}
 use Rattle.cell_layout.proofs.BothLaws.{grown_is_valid}
 use Rattle.cell_layout.proofs.Fitting.{schema_bounds, fits_long, may_hold}
 use Rattle.cell_layout.proofs.KeptRows.{rows_seen, length-all}
 
 -- the number of rows that is kept is the image's
-pub row_count_kept : (image : TableImage) (schema : Schema) (columns : List Classes) (cells : List Cell) (rest : List Row) (rows : ℕ) → image_kept schema columns cells rest ≡ image → IsKept schema columns cells rest rows → row_count image ≡ rows
+pub row_count_kept : (image : TableImage) (schema : Schema) (columns : List Classes) (cells : List Cell) (rest : List Row) (rows : ℕ) → image_of schema columns cells rest ≡ image → IsImageRepr schema columns cells rest rows → row_count image ≡ rows
 row_count_kept image schema columns cells rest rows view kept = ap length (rows_seen image schema columns cells rest view) ∙ length-all columns cells rest ∙ sym kept.counted
 
 -- too many rows are refused, and else the first key that stands before
@@ -34,14 +35,14 @@ pub not_too_many : (limit : ℕ) (image : TableImage) (batch : List Row) → row
 not_too_many limit image batch few = ap (λ b. if b then Some Rows else duplicate_in image.schema.key (rows_of image) batch) (le-ltb limit (row_count image + length batch) few)
 
 -- whether rows are within the limit, as calls say it
-pub beyond : (image : TableImage) (schema : Schema) (columns : List Classes) (cells : List Cell) (rest batch : List Row) (rows limit len : ℕ) → image_kept schema columns cells rest ≡ image → IsKept schema columns cells rest rows
+pub beyond : (image : TableImage) (schema : Schema) (columns : List Classes) (cells : List Cell) (rest batch : List Row) (rows limit len : ℕ) → image_of schema columns cells rest ≡ image → IsImageRepr schema columns cells rest rows
     → len ≡ length batch → true ≡ nat_lt limit (rows + len) → refusal_of limit image batch ≡ Some Rows
 beyond image schema columns cells rest batch rows limit len view kept long more =
     let count = row_count_kept image schema columns cells rest rows view kept in
     let above = ltb-true limit (rows + len) (sym more) in
     too_many limit image batch (omega arith)
 
-pub within : (image : TableImage) (schema : Schema) (columns : List Classes) (cells : List Cell) (rest batch : List Row) (rows limit len : ℕ) → image_kept schema columns cells rest ≡ image → IsKept schema columns cells rest rows
+pub within : (image : TableImage) (schema : Schema) (columns : List Classes) (cells : List Cell) (rest batch : List Row) (rows limit len : ℕ) → image_of schema columns cells rest ≡ image → IsImageRepr schema columns cells rest rows
     → len ≡ length batch → false ≡ nat_lt limit (rows + len) → row_count image + length batch ≤ limit
 within image schema columns cells rest batch rows limit len view kept long few =
     let count = row_count_kept image schema columns cells rest rows view kept in
@@ -55,7 +56,7 @@ by_keys limit image batch held list key why few same standing seen told =
     not_too_many limit image batch few ∙ sym (λ i. duplicate_in (same i) (standing i) (seen i)) ∙ told
 
 -- rows and a batch may be laid out
-pub may_lie : (image : TableImage) (batch : List Row) (limit : ℕ) → is_valid image ≡ true → list_all (fits image.schema) batch ≡ true → row_count image + length batch ≤ limit → limit ≤ most_rows → refusal_of limit image batch ≡ None
+pub may_lie : (image : TableImage) (batch : List Row) (limit : ℕ) → is_valid image ≡ true → list_all (fits image.schema) batch ≡ true → row_count image + length batch ≤ limit → limit ≤ MOST_ROWS → refusal_of limit image batch ≡ None
     → MayHold image.schema (rows_of image ++ batch)
 may_lie image batch limit valid fit few most none = may_hold image batch valid fit (omega arith) (sym (not_too_many limit image batch few) ∙ none)
 
@@ -68,7 +69,7 @@ keys_within schema kept rows list same seen allowed fit = rw (same, seen) (by sc
     by (Some k) h = λ i d lt. let long = fits_long schema rows (length schema.columns) fit refl i d lt in omega arith
 
 -- the rows of a valid image stand placed
-pub standing_placed : (image : TableImage) (schema : Schema) (columns : List Classes) (cells : List Cell) (rest : List Row) (rows : ℕ) → is_valid image ≡ true → image_kept schema columns cells rest ≡ image → IsKept schema columns cells rest rows
+pub standing_placed : (image : TableImage) (schema : Schema) (columns : List Classes) (cells : List Cell) (rest : List Row) (rows : ℕ) → is_valid image ≡ true → image_of schema columns cells rest ≡ image → IsImageRepr schema columns cells rest rows
     → ArePlaced columns (rows_of image) cells rest
 standing_placed image schema columns cells rest rows valid view kept =
     let stands : placed image.schema image.columns (rows_of image) ≡ image = stands_placed image valid in
@@ -86,18 +87,18 @@ standing_placed image schema columns cells rest rows valid view kept =
     }
 
 -- placed rows are the grown image
-pub grown_kept : (image : TableImage) (schema : Schema) (columns : List Classes) (cells new : List Cell) (rest more batch : List Row) → image_kept schema columns cells rest ≡ image
-    → ArePlaced columns (rows_of image ++ batch) new more → image_kept schema columns new more ≡ grown image batch
+pub grown_kept : (image : TableImage) (schema : Schema) (columns : List Classes) (cells new : List Cell) (rest more batch : List Row) → image_of schema columns cells rest ≡ image
+    → ArePlaced columns (rows_of image ++ batch) new more → image_of schema columns new more ≡ grown image batch
 grown_kept image schema columns cells new rest more batch view placed_all =
     let of_schema : schema ≡ image.schema = ap (λ (i : TableImage). i.schema) view in
     let of_columns : columns ≡ image.columns = ap (λ (i : TableImage). i.columns) view in
-    let of_cells : map cell_kept new ≡ cells_of (map (coded image.columns) (filter (is_coded image.columns) (rows_of image ++ batch))) =
+    let of_cells : map cell_image new ≡ cells_of (map (coded image.columns) (filter (is_coded image.columns) (rows_of image ++ batch))) =
     placed_all.image ∙ ap (λ cs. cells_of (map (coded cs) (filter (is_coded cs) (rows_of image ++ batch)))) of_columns in
     let of_rest : more ≡ filter (λ row. not (is_coded image.columns row)) (rows_of image ++ batch) =
     placed_all.others ∙ ap (λ cs. filter (λ row. not (is_coded cs row)) (rows_of image ++ batch)) of_columns in
     λ i. record { schema = of_schema i; columns = of_columns i; cells = of_cells i; rest = of_rest i }
 
-pub kept_grown : (schema : Schema) (columns : List Classes) (cells new : List Cell) (rest more all : List Row) (rows n : ℕ) → IsKept schema columns cells rest rows → ArePlaced columns all new more → n ≡ length all → n ≤ most_rows → IsKept schema columns new more n
+pub kept_grown : (schema : Schema) (columns : List Classes) (cells new : List Cell) (rest more all : List Row) (rows n : ℕ) → IsImageRepr schema columns cells rest rows → ArePlaced columns all new more → n ≡ length all → n ≤ MOST_ROWS → IsImageRepr schema columns new more n
 kept_grown schema columns cells new rest more all rows n kept placed_all same few =
     record {
       each = kept.each;
@@ -119,5 +120,5 @@ pub placed_apart : (columns list : List Classes) (batch rows : List Row) (cells 
 placed_apart columns list batch rows cells rest same seen placed_rows = subst (λ l. ArePlaced columns l cells rest) seen (subst (λ cs. ArePlaced cs rows cells rest) same placed_rows)
 
 -- the rows of an image, as calls read them
-pub rows_read : (image : TableImage) (schema : Schema) (columns list : List Classes) (cells items : List Cell) (rest more : List Row) → image_kept schema columns cells rest ≡ image → list ≡ columns → items ≡ cells → more ≡ rest → all_rows list items more ≡ rows_of image
+pub rows_read : (image : TableImage) (schema : Schema) (columns list : List Classes) (cells items : List Cell) (rest more : List Row) → image_of schema columns cells rest ≡ image → list ≡ columns → items ≡ cells → more ≡ rest → all_rows list items more ≡ rows_of image
 rows_read image schema columns list cells items rest more view same of_cells of_rest = (λ i. all_rows (same i) (of_cells i) (of_rest i)) ∙ sym (rows_seen image schema columns cells rest view)

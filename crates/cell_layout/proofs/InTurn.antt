@@ -6,7 +6,7 @@ use Rattle.std.specs.declared.cmp.Ordering.TheVariants.{Less, Equal, Greater}
 use Rattle.std.specs.Ordering.{is_lt, is_le, is_eq, ordering_reverse}
 use Rattle.std.specs.Cmp.{IsTotalOrder}
 use Rattle.std.proofs.lemmas.Bool.{and_parts, and_from, or_parts, or_from, not-true, not_from_false}
-use Rattle.order_codes.proofs.Rising.{less_is}
+use Rattle.order_codes.proofs.ValueRankLemmas.{less_is}
 use Rattle.blink_lists.specs.Lists.{put_in_order, in_order, rises, are_distinct}
 use Rattle.cell_layout.proofs.Passed.{any-rearranged}
 use Rattle.cell_layout.proofs.Groups.{in_order-rearranged}

@@ -8,8 +8,8 @@ use Rattle.std.proofs.lemmas.List.Folds.{list_any-append}
 use Rattle.blink_lists.specs.Lists.{are_distinct, numbered_from}
 use Rattle.blink_base.specs.declared.value.Value.{Value}
 use Rattle.blink_base.specs.declared.value.Value.TheVariants.{Int}
-use Rattle.blink_base.specs.Compared.{Row, same_value}
-use Rattle.blink_base.specs.Hashing.{value_equiv}
+use Rattle.blink_base.specs.Values.{Row, same_value}
+use Rattle.blink_base.specs.ValueHash.{value_equiv}
 use Rattle.cell_layout.specs.Image.{column_values}
 use Rattle.cell_layout.specs.Refusals.{repeated_key, duplicate_in, duplicate_of}
 use Rattle.cell_layout.specs.Valid.{are_keyed}

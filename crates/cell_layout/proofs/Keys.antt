@@ -9,10 +9,10 @@ use Rattle.std.proofs.lemmas.List.{append-nil}
 use Rattle.std.proofs.lemmas.List.Elements.{filter-append}
 use Rattle.std.proofs.lemmas.Map.Views.{any-filter_same}
 use Rattle.blink_lists.specs.Lists.{put_in_order, in_order, once_each}
-use Rattle.blink_lists.specs.Rearranged.{Rearranged}
-use Rattle.blink_lists.specs.Rearranged.Rearranged.{kept, swapped, followed}
-use Rattle.blink_lists.proofs.Rearrangements.{itself}
-use Rattle.blink_lists.proofs.InOrder.{in_order_rearranged}
+use Rattle.blink_lists.specs.Rearrangement.{Rearranged}
+use Rattle.blink_lists.specs.Rearrangement.Rearranged.{kept, swapped, followed}
+use Rattle.blink_lists.proofs.RearrangementLemmas.{itself}
+use Rattle.blink_lists.proofs.OrderLemmas.{in_order_rearranged}
 
 is_eq-reverse : (r : Ordering) → is_eq (ordering_reverse r) ≡ is_eq r
 is_eq-reverse Less = refl

@@ -1,20 +1,21 @@
 -- What rows laid out anew are.
 use Rattle.std.proofs.Common.{◌≡◌, ◌≤◌, ℕ, List, length, sym, ap, ◌∙◌, subst, true, arith}
-use Rattle.blink_lists.specs.Rearranged.{Rearranged}
+use Rattle.blink_lists.specs.Rearrangement.{Rearranged}
 use Rattle.blink_base.specs.declared.schema.Schema.{Schema}
-use Rattle.blink_base.specs.Compared.{Row}
-use Rattle.order_codes.specs.Places.{Classes}
+use Rattle.blink_base.specs.Values.{Row}
+use Rattle.order_codes.specs.Dictionary.{Classes}
 use Rattle.cell_layout.specs.declared.cell.Cell.{Cell}
 use Rattle.cell_layout.specs.Image.{TableImage, rows_of}
-use Rattle.cell_layout.specs.Laid.{laid}
-use Rattle.cell_layout.specs.Kept.{IsKept, most_image_columns}
-use Rattle.cell_layout.specs.Placed.{ArePlaced}
-use Rattle.cell_layout.specs.Valid.{is_valid, most_rows, MayHold}
+use Rattle.cell_layout.specs.Layout.{laid}
+use Rattle.cell_layout.specs.CellRepr.{IsImageRepr}
+use Rattle.blink_lists.specs.declared.limits.TheConstants.{MOST_COLUMNS, MOST_ROWS}
+use Rattle.cell_layout.specs.RowPartition.{ArePlaced}
+use Rattle.cell_layout.specs.Valid.{is_valid, MayHold}
 use Rattle.cell_layout.proofs.BothLaws.{laid_is_valid}
 
 -- placed rows are kept
 pub kept_placed : (schema copy : Schema) (columns : List Classes) (rows : List Row) (cells : List Cell) (rest : List Row) (n : ℕ) → ArePlaced columns rows cells rest → copy ≡ schema → length columns ≡ length schema.columns
-    → length schema.columns ≤ most_image_columns → n ≡ length rows → n ≤ most_rows → IsKept copy columns cells rest n
+    → length schema.columns ≤ MOST_COLUMNS → n ≡ length rows → n ≤ MOST_ROWS → IsImageRepr copy columns cells rest n
 kept_placed schema copy columns rows cells rest n placed same each few long most =
     record {
       each = each ∙ ap (λ (s : Schema). length s.columns) (sym same);

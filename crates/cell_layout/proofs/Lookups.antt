@@ -11,9 +11,9 @@ use Rattle.std.proofs.lemmas.List.{append-nil, length-map, take-append-drop}
 use Rattle.std.proofs.lemmas.List.Concat.{flat_map-append}
 use Rattle.std.proofs.lemmas.List.Folds.{list_all-map}
 use Rattle.cell_layout.specs.Image.{CellImage, CodedRow}
-use Rattle.cell_layout.specs.Laid.{cell_cmp, same_cell, cell_of, cells_of}
-use Rattle.cell_layout.specs.Placing.{keys_in, Above, Rising}
-use Rattle.cell_layout.specs.Merging.{rows_under, lookup}
+use Rattle.cell_layout.specs.Layout.{cell_cmp, same_cell, cell_of, cells_of}
+use Rattle.cell_layout.specs.InsertRow.{keys_in, Above, Rising}
+use Rattle.cell_layout.specs.MergeCells.{rows_under, lookup}
 use Rattle.cell_layout.proofs.Keys.{any-keys}
 use Rattle.cell_layout.proofs.Passed.{all_weaker, some_kept}
 use Rattle.cell_layout.proofs.Cells.{same_is, same_itself, cell_keys}

@@ -4,8 +4,8 @@ use Rattle.std.specs.List.{list_all, list_any}
 use Rattle.std.proofs.lemmas.Bool.{and_parts, and_from, not-true, not_from_false, le-leb}
 use Rattle.std.proofs.lemmas.List.Sums.{length-filter, count_by-le-length}
 use Rattle.blink_lists.specs.Lists.{once_each, are_distinct}
-use Rattle.blink_lists.specs.Rearranged.{Rearranged}
-use Rattle.blink_lists.specs.Rearranged.Rearranged.{none, kept, swapped, followed}
+use Rattle.blink_lists.specs.Rearrangement.{Rearranged}
+use Rattle.blink_lists.specs.Rearrangement.Rearranged.{none, kept, swapped, followed}
 
 swap_and : (a b c : Bool) → (a && (b && c)) ≡ (b && (a && c))
 swap_and true true c = refl

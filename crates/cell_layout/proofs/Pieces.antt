@@ -4,9 +4,9 @@ use Rattle.std.proofs.lemmas.List.{append_assoc, length-drop}
 use Rattle.std.proofs.lemmas.List.Sums.{sum_by-cons}
 use Rattle.blink_lists.specs.Lists.{in_order}
 use Rattle.blink_base.specs.declared.value.Value.{Value}
-use Rattle.blink_base.specs.Compared.{value_cmp}
-use Rattle.blink_histogram.specs.Ranked.{Counted}
-use Rattle.cell_layout.specs.Laid.{classes_by}
+use Rattle.blink_base.specs.Values.{value_cmp}
+use Rattle.blink_histogram.specs.Ranks.{Counted}
+use Rattle.cell_layout.specs.Layout.{classes_by}
 
 take-map : {X Y : Type 0} (f : X → Y) (n : ℕ) (xs : List X) → map f (take n xs) ≡ take n (map f xs)
 take-map f zero xs = refl

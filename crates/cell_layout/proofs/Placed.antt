@@ -3,21 +3,21 @@ use Rattle.std.proofs.Common.{◌≡◌, ℕ, ◌≤◌, Bool, true, not, ◌&&�
 use Rattle.std.specs.List.{list_all, list_any, zip}
 use Rattle.std.proofs.lemmas.Bool.{and_parts, and_from, le-leb, eqb-true, eq-eqb}
 use Rattle.std.proofs.lemmas.Cmp.{nat_list_cmp_total, eq_by_cmp_equiv}
-use Rattle.blink_base.specs.Order.{value_total}
+use Rattle.blink_base.specs.ValueOrder.{value_total}
 use Rattle.blink_base.specs.declared.schema.Column.{Column}
 use Rattle.std.proofs.lemmas.List.{length-map}
 use Rattle.std.proofs.lemmas.List.Folds.{list_all-map}
 use Rattle.blink_lists.specs.Lists.{once_each, rises}
-use Rattle.blink_lists.specs.Rearranged.{Rearranged}
-use Rattle.blink_lists.proofs.Rearrangements.{map-rearranged}
+use Rattle.blink_lists.specs.Rearrangement.{Rearranged}
+use Rattle.blink_lists.proofs.RearrangementLemmas.{map-rearranged}
 use Rattle.blink_base.specs.declared.schema.Schema.{Schema}
 use Rattle.blink_base.specs.declared.value.Value.TheVariants.{Int}
-use Rattle.blink_base.specs.Compared.{Row, same_value}
-use Rattle.blink_base.specs.Fits.{fits}
-use Rattle.order_codes.specs.Places.{Classes, are_classes}
+use Rattle.blink_base.specs.Values.{Row, same_value}
+use Rattle.blink_base.specs.RowFits.{fits, is_schema}
+use Rattle.order_codes.specs.Dictionary.{Classes, are_classes}
 use Rattle.cell_layout.specs.Image.{TableImage, CodedRow, is_coded, coded, rows_of}
-use Rattle.cell_layout.specs.Laid.{cell_cmp, same_cell, cell_of, cells_of, placed}
-use Rattle.cell_layout.specs.Valid.{is_cell, are_codes, is_row_count, is_rest_row, is_valid, is_schema, are_divided, are_column_classes, are_keyed, most_cell_rows, MayHold}
+use Rattle.cell_layout.specs.Layout.{cell_cmp, same_cell, cell_of, cells_of, placed}
+use Rattle.cell_layout.specs.Valid.{is_cell, are_codes, is_row_count, is_rest_row, is_valid, are_divided, are_column_classes, are_keyed, most_cell_rows, MayHold}
 use Rattle.cell_layout.proofs.Passed.{all-rearranged, all_weaker, all_both, all-filter, all_kept, all-once_each, some_kept, distinct-once_each, distinct-rearranged, length-filter-le}
 use Rattle.cell_layout.proofs.Groups.{own_keys, in_order-rearranged}
 use Rattle.cell_layout.proofs.InTurn.{rises-in_order}

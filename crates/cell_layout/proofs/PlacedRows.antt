@@ -3,18 +3,18 @@ use Rattle.std.proofs.Common.{◌≡◌, ◌+◌, ◌<◌, ℕ, Bool, true, fals
 use Rattle.std.proofs.lemmas.List.{append-nil, append_assoc, map-append, length-append, take_more}
 use Rattle.std.proofs.lemmas.List.Elements.{filter-append}
 use Rattle.blink_lists.specs.Lists.{rises}
-use Rattle.blink_base.specs.Compared.{Row}
-use Rattle.order_codes.specs.Places.{Classes}
+use Rattle.blink_base.specs.Values.{Row}
+use Rattle.order_codes.specs.Dictionary.{Classes}
 use Rattle.cell_layout.specs.declared.cell.Cell.{Cell}
 use Rattle.cell_layout.specs.Image.{CellImage, CodedRow, is_coded, coded}
-use Rattle.cell_layout.specs.Laid.{cell_cmp, cells_of}
+use Rattle.cell_layout.specs.Layout.{cell_cmp, cells_of}
 use Rattle.std.specs.declared.alloc.AllocError.{AllocError}
-use Rattle.cell_layout.specs.Valid.{most_rows}
-use Rattle.cell_layout.specs.Kept.{cell_kept, IsKeptCell}
-use Rattle.cell_layout.specs.Places.{keys_of_cells, AreWithin, IsFound, IsMissing}
-use Rattle.cell_layout.specs.Placing.{put_row, keys_in, Rising}
-use Rattle.cell_layout.specs.Putting.{IsPut, IsPushed, IsFirst, rows_in_all}
-use Rattle.cell_layout.specs.Placed.{ArePlaced}
+use Rattle.blink_lists.specs.declared.limits.TheConstants.{MOST_ROWS}
+use Rattle.cell_layout.specs.CellRepr.{cell_image, IsCellRepr}
+use Rattle.cell_layout.specs.CellIndex.{keys_of_cells, AreWithin, IsFound, IsMissing}
+use Rattle.cell_layout.specs.InsertRow.{put_row, keys_in, Rising}
+use Rattle.cell_layout.specs.InsertRowRepr.{IsPut, IsPushed, IsFirst, rows_in_all}
+use Rattle.cell_layout.specs.RowPartition.{ArePlaced}
 use Rattle.cell_layout.proofs.Placing.{row_placed, Rising-put}
 use Rattle.cell_layout.proofs.Finding.{rising-from, rises-from}
 use Rattle.cell_layout.proofs.Putting.{keys-kept, found_put, missing_put}
@@ -42,10 +42,10 @@ coded_placed columns rows cells new rest row classes codes placed coded_row numb
     let front : List CodedRow = map (coded columns) (filter (is_coded columns) rows) in
     let more : map (coded columns) (filter (is_coded columns) (rows ++ row ∷ [])) ≡ map (coded columns) (filter (is_coded columns) rows) ++ coded columns row ∷ [] =
     ap (map (coded columns)) (keep (is_coded columns) rows row coded_row) ∙ map-append (coded columns) (filter (is_coded columns) rows) (row ∷ []) in
-    let rising : Rising (keys_in (map cell_kept cells)) = subst Rising (sym (keys-kept cells)) (rising-from (keys_of_cells cells) placed.order) in
+    let rising : Rising (keys_in (map cell_image cells)) = subst Rising (sym (keys-kept cells)) (rising-from (keys_of_cells cells) placed.order) in
     let before : Rising (keys_in (cells_of (map (coded columns) (filter (is_coded columns) rows)))) = subst (λ (l : List CellImage). Rising (keys_in l)) placed.image rising in
     let image = put.image ∙ (λ i. put_row (is i) (placed.image i)) ∙ sym (row_placed (map (coded columns) (filter (is_coded columns) rows)) (coded columns row) before) ∙ ap cells_of (sym more) in
-    let after : Rising (keys_in (map cell_kept new)) = subst (λ (l : List CellImage). Rising (keys_in l)) (sym put.image) (Rising-put (record { classes = classes; codes = codes }) (map cell_kept cells) rising) in
+    let after : Rising (keys_in (map cell_image new)) = subst (λ (l : List CellImage). Rising (keys_in l)) (sym put.image) (Rising-put (record { classes = classes; codes = codes }) (map cell_image cells) rising) in
     let n = length-append rows (row ∷ []) in
     let one = put.one_more in
     let counted = placed.counted in
@@ -73,13 +73,13 @@ rest_placed columns rows cells rest more row placed uncoded pushed =
     }
 
 -- the same as calls say it
-pub found_placed : (columns : List Classes) (old list new : List Cell) (at : ℕ) (classes keys codes tail : List ℕ) (r : Result (Unit {0}) AllocError) → All (IsKeptCell columns) old → rises cell_cmp (keys_of_cells old) ≡ true
-    → rows_in_all old < most_rows → AreWithin columns classes codes (length columns) → list ≡ old → keys ≡ classes → tail ≡ codes → IsFound list keys at → OnOk r (IsPushed old new at tail) → OnOk r (IsPut columns old new classes codes)
+pub found_placed : (columns : List Classes) (old list new : List Cell) (at : ℕ) (classes keys codes tail : List ℕ) (r : Result (Unit {0}) AllocError) → All (IsCellRepr columns) old → rises cell_cmp (keys_of_cells old) ≡ true
+    → rows_in_all old < MOST_ROWS → AreWithin columns classes codes (length columns) → list ≡ old → keys ≡ classes → tail ≡ codes → IsFound list keys at → OnOk r (IsPushed old new at tail) → OnOk r (IsPut columns old new classes codes)
 found_placed columns old list new at classes keys codes tail r kept up few w cells numbers last found pushed =
     let here : IsFound old classes at = subst (λ k. IsFound old k at) numbers (subst (λ l. IsFound l keys at) cells found) in
     on_ok r (λ p. found_put columns old new at classes codes kept up few w here (subst (IsPushed old new at) last p)) pushed
 
-pub missing_placed : (columns : List Classes) (old list room new : List Cell) (at : ℕ) (cell : Cell) (classes keys codes : List ℕ) → All (IsKeptCell columns) old → AreWithin columns classes codes (length columns)
+pub missing_placed : (columns : List Classes) (old list room new : List Cell) (at : ℕ) (cell : Cell) (classes keys codes : List ℕ) → All (IsCellRepr columns) old → AreWithin columns classes codes (length columns)
     → list ≡ old → keys ≡ classes → IsMissing list keys at → IsFirst columns cell classes codes → room ≡ old → new ≡ insert room at cell → IsPut columns old new classes codes
 missing_placed columns old list room new at cell classes keys codes kept w cells numbers missing first same put =
     let here : IsMissing old classes at = subst (λ k. IsMissing old k at) numbers (subst (λ l. IsMissing l keys at) cells missing) in

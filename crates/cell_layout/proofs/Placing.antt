@@ -11,8 +11,8 @@ use Rattle.std.proofs.lemmas.List.{append-nil, map-append}
 use Rattle.std.proofs.lemmas.List.Elements.{filter-append}
 use Rattle.blink_lists.specs.Lists.{put_in_order, in_order, once_each}
 use Rattle.cell_layout.specs.Image.{CellImage, CodedRow}
-use Rattle.cell_layout.specs.Laid.{cell_cmp, same_cell, cell_of, cells_of}
-use Rattle.cell_layout.specs.Placing.{one_row, with_row, put_row, keys_in, Above, Rising}
+use Rattle.cell_layout.specs.Layout.{cell_cmp, same_cell, cell_of, cells_of}
+use Rattle.cell_layout.specs.InsertRow.{one_row, with_row, put_row, keys_in, Above, Rising}
 use Rattle.cell_layout.proofs.Keys.{any-keys, keys-known, keys-new, same-turned}
 
 pub turned : (x y : List ℕ) (c : Ordering) → cell_cmp x y ≡ c → cell_cmp y x ≡ ordering_reverse c

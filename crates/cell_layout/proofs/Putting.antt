@@ -10,17 +10,18 @@ use Rattle.std.proofs.lemmas.List.Folds.{list_all-append}
 use Rattle.std.proofs.lemmas.List.Sums.{sum_by-set, sum_by-insert, sum_by_more_le}
 use Rattle.blink_lists.specs.Lists.{rises, numbers_from}
 use Rattle.blink_base.specs.declared.value.Value.{Value}
-use Rattle.order_codes.specs.Places.{Classes, class_at}
+use Rattle.order_codes.specs.Dictionary.{Classes, class_at}
 use Rattle.cell_layout.specs.declared.cell.Cell.{Cell}
 use Rattle.cell_layout.specs.Image.{CellImage, CodedRow}
-use Rattle.cell_layout.specs.Laid.{cell_cmp}
+use Rattle.cell_layout.specs.Layout.{cell_cmp}
 use Rattle.std.proofs.Math.Seq.{get_or-append_seam}
 use Rattle.cell_layout.specs.Blocks.{banks_for}
-use Rattle.cell_layout.specs.Valid.{is_cell, is_row_count, are_codes, most_rows, most_cell_rows}
-use Rattle.cell_layout.specs.Kept.{IsKeptCell, cell_kept, row_kept, rows_kept}
-use Rattle.cell_layout.specs.Places.{AreWithin, HasPushed, IsFound, IsMissing, keys_of_cells, key_at}
-use Rattle.cell_layout.specs.Placing.{one_row, with_row, put_row, keys_in, Rising}
-use Rattle.cell_layout.specs.Putting.{IsGrown, IsPushed, IsFirst, IsPut, rows_in_all}
+use Rattle.cell_layout.specs.Valid.{is_cell, is_row_count, are_codes, most_cell_rows}
+use Rattle.blink_lists.specs.declared.limits.TheConstants.{MOST_ROWS}
+use Rattle.cell_layout.specs.CellRepr.{IsCellRepr, cell_image, row_of_codes, rows_of_codes}
+use Rattle.cell_layout.specs.CellIndex.{AreWithin, HasPushed, IsFound, IsMissing, keys_of_cells, key_at}
+use Rattle.cell_layout.specs.InsertRow.{one_row, with_row, put_row, keys_in, Rising}
+use Rattle.cell_layout.specs.InsertRowRepr.{IsGrown, IsPushed, IsFirst, IsPut, rows_in_all}
 use Rattle.cell_layout.proofs.Placing.{turned, put-less, put-equal, put-greater}
 use Rattle.cell_layout.proofs.Finding.{rising-from, above-at}
 use Rattle.cell_layout.proofs.KeptRows.{length-rows}
@@ -64,8 +65,8 @@ module _ (old new : List (List ℕ × ℕ)) (codes : List ℕ) (rows : ℕ) (ful
   none : List ℕ × ℕ
   none = ([], 0)
 
-  row-old : (row : ℕ) → row < rows → row_kept new row ≡ row_kept old row
-  row-old row lt = ext_get_or 0 (row_kept new row) (row_kept old row)
+  row-old : (row : ℕ) → row < rows → row_of_codes new row ≡ row_of_codes old row
+  row-old row lt = ext_get_or 0 (row_of_codes new row) (row_of_codes old row)
       (length-map new (λ (c : List ℕ × ℕ). get_or c.0 row 0) ∙ pushed.count ∙ sym (length-map old (λ (c : List ℕ × ℕ). get_or c.0 row 0)))
       (λ k within.
       let n = length-map new (λ (c : List ℕ × ℕ). get_or c.0 row 0) in
@@ -76,8 +77,8 @@ module _ (old new : List (List ℕ × ℕ)) (codes : List ℕ) (rows : ℕ) (ful
       ∙ get_or_append_left (get_or old k none).0 (get_or codes k 0 ∷ []) 0 row (omega arith)
       ∙ sym (get_or-map (λ (c : List ℕ × ℕ). get_or c.0 row 0) old k none 0 (omega arith)))
 
-  row-new : row_kept new rows ≡ codes
-  row-new = ext_get_or 0 (row_kept new rows) codes
+  row-new : row_of_codes new rows ≡ codes
+  row-new = ext_get_or 0 (row_of_codes new rows) codes
       (length-map new (λ (c : List ℕ × ℕ). get_or c.0 rows 0) ∙ pushed.count ∙ sym width)
       (λ k within.
       let n = length-map new (λ (c : List ℕ × ℕ). get_or c.0 rows 0) in
@@ -88,12 +89,12 @@ module _ (old new : List (List ℕ × ℕ)) (codes : List ℕ) (rows : ℕ) (ful
       ∙ ap (λ i. get_or ((get_or old k none).0 ++ get_or codes k 0 ∷ []) i 0) (sym size)
       ∙ get_or-append_seam (get_or old k none).0 (get_or codes k 0) [] 0)
 
-  rows-pushed : rows_kept new (rows + 1) ≡ rows_kept old rows ++ codes ∷ []
+  rows-pushed : rows_of_codes new (rows + 1) ≡ rows_of_codes old rows ++ codes ∷ []
   rows-pushed =
       let zero : 0 + rows ≡ rows = omega arith in
-      numbers-push (row_kept new) 0 rows
-      ∙ ap (λ l. l ++ row_kept new (0 + rows) ∷ []) (same-numbers (row_kept new) (row_kept old) 0 rows (λ k lt. row-old k (omega arith)))
-      ∙ ap (λ r. rows_kept old rows ++ r ∷ []) (ap (row_kept new) zero ∙ row-new)
+      numbers-push (row_of_codes new) 0 rows
+      ∙ ap (λ l. l ++ row_of_codes new (0 + rows) ∷ []) (same-numbers (row_of_codes new) (row_of_codes old) 0 rows (λ k lt. row-old k (omega arith)))
+      ∙ ap (λ r. rows_of_codes old rows ++ r ∷ []) (ap (row_of_codes new) zero ∙ row-new)
 
   full-pushed : All (λ (c : List ℕ × ℕ). length c.0 ≡ rows + 1) new
   full-pushed k d lt =
@@ -135,24 +136,24 @@ cell_with columns cell r good few codes =
 
 -- a cell that grows by a row
 pub record GrownCell (columns : List Classes) (old new : Cell) (r : CodedRow) : Type 0 where
-  pub kept : IsKeptCell columns new
-  pub image : cell_kept new ≡ with_row (cell_kept old) r
+  pub kept : IsCellRepr columns new
+  pub image : cell_image new ≡ with_row (cell_image old) r
 
-pub grown_cell : (columns : List Classes) (old new : Cell) (r : CodedRow) → IsKeptCell columns old → IsGrown old new r.codes → old.classes ≡ r.classes → AreWithin columns r.classes r.codes (length columns) → old.rows < most_rows
+pub grown_cell : (columns : List Classes) (old new : Cell) (r : CodedRow) → IsCellRepr columns old → IsGrown old new r.codes → old.classes ≡ r.classes → AreWithin columns r.classes r.codes (length columns) → old.rows < MOST_ROWS
     → GrownCell columns old new r
 grown_cell columns old new r kept grown same w few =
     let width : length r.codes ≡ length old.codes = w.code_count ∙ sym kept.lists in
-    let rows : rows_kept new.codes new.rows ≡ rows_kept old.codes old.rows ++ r.codes ∷ [] =
-    ap (rows_kept new.codes) grown.one_more ∙ rows-pushed old.codes new.codes r.codes old.rows kept.full width grown.pushed in
+    let rows : rows_of_codes new.codes new.rows ≡ rows_of_codes old.codes old.rows ++ r.codes ∷ [] =
+    ap (rows_of_codes new.codes) grown.one_more ∙ rows-pushed old.codes new.codes r.codes old.rows kept.full width grown.pushed in
     let classes = grown.same_classes in
-    let image : cell_kept new ≡ with_row (cell_kept old) r = λ i. record { classes = classes i; rows = rows i } in
+    let image : cell_image new ≡ with_row (cell_image old) r = λ i. record { classes = classes i; rows = rows i } in
     let n = length-rows old.codes old.rows in
     record {
       kept = record {
         plan = grown.same_plan ∙ kept.plan ∙ ap (banks_for columns) (sym classes);
         lists = grown.pushed.count ∙ kept.lists;
         full = subst (λ m. All (λ (c : List ℕ × ℕ). length c.0 ≡ m) new.codes) (sym grown.one_more) (full-pushed old.codes new.codes r.codes old.rows kept.full width grown.pushed);
-        good = ap (is_cell columns) image ∙ cell_with columns (cell_kept old) r kept.good (omega arith) (ap (λ k. are_codes columns k r.codes) same ∙ codes_within columns r.classes r.codes w);
+        good = ap (is_cell columns) image ∙ cell_with columns (cell_image old) r kept.good (omega arith) (ap (λ k. are_codes columns k r.codes) same ∙ codes_within columns r.classes r.codes w);
       };
       image = image;
     }
@@ -160,12 +161,12 @@ grown_cell columns old new r kept grown same w few =
 pub empty_cell : Cell
 empty_cell = record { classes = []; plan = []; codes = []; rows = 0 }
 
-pub keys-kept : (cells : List Cell) → keys_in (map cell_kept cells) ≡ keys_of_cells cells
+pub keys-kept : (cells : List Cell) → keys_in (map cell_image cells) ≡ keys_of_cells cells
 keys-kept [] = refl
 keys-kept (c ∷ cells) = ap (λ l. c.classes ∷ l) (keys-kept cells)
 
 -- a row in the cell that was found
-pub found_put : (columns : List Classes) (old new : List Cell) (at : ℕ) (classes codes : List ℕ) → All (IsKeptCell columns) old → rises cell_cmp (keys_of_cells old) ≡ true → rows_in_all old < most_rows
+pub found_put : (columns : List Classes) (old new : List Cell) (at : ℕ) (classes codes : List ℕ) → All (IsCellRepr columns) old → rises cell_cmp (keys_of_cells old) ≡ true → rows_in_all old < MOST_ROWS
     → AreWithin columns classes codes (length columns) → IsFound old classes at → IsPushed old new at codes → IsPut columns old new classes codes
 found_put columns old new at classes codes kept up few w found pushed =
     let before : Cell = get_or old at empty_cell in
@@ -175,18 +176,18 @@ found_put columns old new at classes codes kept up few w found pushed =
     let upto = sum_by_more_le (λ (c : Cell). c.rows) old at empty_cell found.within in
     let grown = grown_cell columns (get_or old at empty_cell) (get_or new at empty_cell) r (kept at empty_cell found.within) (pushed.here empty_cell) same w (omega arith) in
     let whole : new ≡ set old at (get_or new at empty_cell) = ext_get_or empty_cell new (set old at (get_or new at empty_cell)) (pushed.count ∙ sym (length-set old at (get_or new at empty_cell))) (λ i lt. by i (cases_order i at)) in
-    let view : get_or (map cell_kept old) at (cell_kept empty_cell) ≡ cell_kept (get_or old at empty_cell) = get_or-map cell_kept old at empty_cell (cell_kept empty_cell) found.within in
-    let rising : Rising (keys_in (map cell_kept old)) = subst Rising (sym (keys-kept old)) (rising-from (keys_of_cells old) up) in
-    let n = length-map old cell_kept in
+    let view : get_or (map cell_image old) at (cell_image empty_cell) ≡ cell_image (get_or old at empty_cell) = get_or-map cell_image old at empty_cell (cell_image empty_cell) found.within in
+    let rising : Rising (keys_in (map cell_image old)) = subst Rising (sym (keys-kept old)) (rising-from (keys_of_cells old) up) in
+    let n = length-map old cell_image in
     let sums = sum_by-set (λ (c : Cell). c.rows) old at (get_or new at empty_cell) empty_cell found.within in
     let more = (pushed.here empty_cell).one_more in
     let total = ap rows_in_all whole in
     record {
       image =
-          ap (map cell_kept) whole ∙ map-set cell_kept old at (get_or new at empty_cell)
-          ∙ ap (set (map cell_kept old) at) (grown.image ∙ ap (λ c. with_row c r) (sym view))
-          ∙ sym (put-found r (map cell_kept old) at (cell_kept empty_cell) rising (omega (arith, found.within)) (ap (λ (c : CellImage). c.classes) view ∙ same));
-      kept = subst (All (IsKeptCell columns)) (sym whole) (All-set (IsKeptCell columns) old at (get_or new at empty_cell) grown.kept kept);
+          ap (map cell_image) whole ∙ map-set cell_image old at (get_or new at empty_cell)
+          ∙ ap (set (map cell_image old) at) (grown.image ∙ ap (λ c. with_row c r) (sym view))
+          ∙ sym (put-found r (map cell_image old) at (cell_image empty_cell) rising (omega (arith, found.within)) (ap (λ (c : CellImage). c.classes) view ∙ same));
+      kept = subst (All (IsCellRepr columns)) (sym whole) (All-set (IsCellRepr columns) old at (get_or new at empty_cell) grown.kept kept);
       one_more = omega arith;
     }
   where
@@ -196,10 +197,10 @@ found_put columns old new at classes codes kept up few w found pushed =
     by i (inr (inr more)) = let ne : i ≢ at = λ e. absurd (omega arith) in pushed.others i empty_cell ne ∙ sym (get_or-set_other old at i (get_or new at empty_cell) empty_cell ne)
 
 -- a cell of one row
-firsts : (lists : List (List ℕ × ℕ)) (codes : List ℕ) → map (λ (l : List ℕ × ℕ). l.0) lists ≡ map (λ (n : ℕ). n ∷ []) codes → row_kept lists 0 ≡ codes
+firsts : (lists : List (List ℕ × ℕ)) (codes : List ℕ) → map (λ (l : List ℕ × ℕ). l.0) lists ≡ map (λ (n : ℕ). n ∷ []) codes → row_of_codes lists 0 ≡ codes
 firsts lists codes e = heads lists ∙ ap (map (λ (l : List ℕ). get_or l 0 0)) e ∙ ones codes
   where
-    heads : (xs : List (List ℕ × ℕ)) → row_kept xs 0 ≡ map (λ (l : List ℕ). get_or l 0 0) (map (λ (l : List ℕ × ℕ). l.0) xs)
+    heads : (xs : List (List ℕ × ℕ)) → row_of_codes xs 0 ≡ map (λ (l : List ℕ). get_or l 0 0) (map (λ (l : List ℕ × ℕ). l.0) xs)
     heads [] = refl
     heads (x ∷ xs) = ap (λ l. get_or x.0 0 0 ∷ l) (heads xs)
 
@@ -207,7 +208,7 @@ firsts lists codes e = heads lists ∙ ap (map (λ (l : List ℕ). get_or l 0 0)
     ones [] = refl
     ones (n ∷ ns) = ap (λ l. n ∷ l) (ones ns)
 
-first_cell : (columns : List Classes) (cell : Cell) (r : CodedRow) → AreWithin columns r.classes r.codes (length columns) → IsFirst columns cell r.classes r.codes → IsKeptCell columns cell × (cell_kept cell ≡ one_row r)
+first_cell : (columns : List Classes) (cell : Cell) (r : CodedRow) → AreWithin columns r.classes r.codes (length columns) → IsFirst columns cell r.classes r.codes → IsCellRepr columns cell × (cell_image cell ≡ one_row r)
 first_cell columns cell r w first = (
   record {
     plan = first.planned ∙ ap (banks_for columns) (sym first.numbers);
@@ -226,9 +227,9 @@ first_cell columns cell r w first = (
         let c = count in
         ap length (sym (get_or-map (λ (l : List ℕ × ℕ). l.0) cell.codes k d [] lt) ∙ ap (λ l. get_or l k []) first.lists ∙ get_or-map (λ (n : ℕ). n ∷ []) r.codes k 0 [] (omega arith))
 
-    image : cell_kept cell ≡ one_row r
+    image : cell_image cell ≡ one_row r
     image =
-        let rows : rows_kept cell.codes cell.rows ≡ r.codes ∷ [] = ap (rows_kept cell.codes) first.one ∙ ap (λ l. l ∷ []) (firsts cell.codes r.codes first.lists) in
+        let rows : rows_of_codes cell.codes cell.rows ≡ r.codes ∷ [] = ap (rows_of_codes cell.codes) first.one ∙ ap (λ l. l ∷ []) (firsts cell.codes r.codes first.lists) in
         let numbers = first.numbers in
         λ i. record { classes = numbers i; rows = rows i }
 
@@ -246,25 +247,25 @@ map-insert f [] (suc i) x = refl
 map-insert f (y ∷ xs) (suc i) x = ap (λ l. f y ∷ l) (map-insert f xs i x)
 
 -- a row in a new cell
-pub missing_put : (columns : List Classes) (old new : List Cell) (at : ℕ) (cell : Cell) (classes codes : List ℕ) → All (IsKeptCell columns) old → AreWithin columns classes codes (length columns) → IsMissing old classes at
+pub missing_put : (columns : List Classes) (old new : List Cell) (at : ℕ) (cell : Cell) (classes codes : List ℕ) → All (IsCellRepr columns) old → AreWithin columns classes codes (length columns) → IsMissing old classes at
     → IsFirst columns cell classes codes → new ≡ insert old at cell → IsPut columns old new classes codes
 missing_put columns old new at cell classes codes kept w missing first whole =
     let r : CodedRow = record { classes = classes; codes = codes } in
     let one = first_cell columns cell r w first in
-    let n = length-map old cell_kept in
+    let n = length-map old cell_image in
     let sums = sum_by-insert (λ (c : Cell). c.rows) old at cell in
     let rows = first.one in
     let total = ap rows_in_all whole in
     record {
       image =
-          ap (map cell_kept) whole ∙ map-insert cell_kept old at cell ∙ ap (insert (map cell_kept old) at) one.1
+          ap (map cell_image) whole ∙ map-insert cell_image old at cell ∙ ap (insert (map cell_image old) at) one.1
           ∙ sym
-          (put-missing r (map cell_kept old) at (cell_kept empty_cell) (omega (arith, missing.within)) (λ k lt. ap (λ x. cell_cmp x classes) (key k (omega (arith, missing.within))) ∙ missing.before k lt)
+          (put-missing r (map cell_image old) at (cell_image empty_cell) (omega (arith, missing.within)) (λ k lt. ap (λ x. cell_cmp x classes) (key k (omega (arith, missing.within))) ∙ missing.before k lt)
           (λ k le lt. ap (λ x. cell_cmp x classes) (key k (omega arith)) ∙ missing.behind k le (omega arith)));
-      kept = subst (All (IsKeptCell columns)) (sym whole) (All-append (IsKeptCell columns) (take at old) (cell ∷ drop at old) (All-take (IsKeptCell columns) at old kept)
-          (All-cons (IsKeptCell columns) cell (drop at old) one.0 (All-drop (IsKeptCell columns) at old kept)));
+      kept = subst (All (IsCellRepr columns)) (sym whole) (All-append (IsCellRepr columns) (take at old) (cell ∷ drop at old) (All-take (IsCellRepr columns) at old kept)
+          (All-cons (IsCellRepr columns) cell (drop at old) one.0 (All-drop (IsCellRepr columns) at old kept)));
       one_more = omega arith;
     }
   where
-    key : (k : ℕ) → k < length old → (get_or (map cell_kept old) k (cell_kept empty_cell)).classes ≡ key_at old k
-    key k lt = ap (λ (c : CellImage). c.classes) (get_or-map cell_kept old k empty_cell (cell_kept empty_cell) lt) ∙ sym (get_or-map (λ (c : Cell). c.classes) old k empty_cell [] lt)
+    key : (k : ℕ) → k < length old → (get_or (map cell_image old) k (cell_image empty_cell)).classes ≡ key_at old k
+    key k lt = ap (λ (c : CellImage). c.classes) (get_or-map cell_image old k empty_cell (cell_image empty_cell) lt) ∙ sym (get_or-map (λ (c : Cell). c.classes) old k empty_cell [] lt)

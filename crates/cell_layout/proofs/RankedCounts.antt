@@ -14,10 +14,10 @@ use Rattle.blink_lists.specs.Lists.{put_in_order, in_order}
 use Rattle.freq_partition.specs.Division.{never_rises}
 use Rattle.blink_base.specs.declared.value.Value.{Value}
 use Rattle.blink_base.specs.declared.value.Value.TheVariants.{Int}
-use Rattle.blink_base.specs.Compared.{same_value}
-use Rattle.blink_base.specs.Hashing.{value_equiv}
-use Rattle.blink_histogram.specs.Ranked.{Counted, counted, count_of, rank_cmp, distinct_values}
-use Rattle.cell_layout.specs.Laid.{counts_of}
+use Rattle.blink_base.specs.Values.{same_value}
+use Rattle.blink_base.specs.ValueHash.{value_equiv}
+use Rattle.blink_histogram.specs.Ranks.{Counted, counted, count_of, rank_cmp, distinct_values}
+use Rattle.cell_layout.specs.Layout.{counts_of}
 use Rattle.cell_layout.proofs.Passed.{all_weaker, all-filter}
 
 -- the count at a number

@@ -5,12 +5,12 @@ use Rattle.std.proofs.lemmas.Bool.{cases_lt}
 use Rattle.std.proofs.lemmas.List.{get_or_append_left, length-append}
 use Rattle.blink_lists.specs.Lists.{numbers_from}
 use Rattle.freq_partition.specs.Division.{saving_of}
-use Rattle.cell_layout.specs.Laid.{counts_of}
-use Rattle.blink_base.specs.Compared.{Row}
-use Rattle.blink_histogram.specs.Ranked.{ranked}
-use Rattle.cell_layout.specs.declared.ranks.RankedColumn.{RankedColumn}
+use Rattle.cell_layout.specs.Layout.{counts_of}
+use Rattle.blink_base.specs.Values.{Row}
+use Rattle.blink_histogram.specs.Ranks.{ranked}
+use Rattle.cell_layout.specs.declared.column_stats.RankedColumn.{RankedColumn}
 use Rattle.cell_layout.specs.Image.{column_values}
-use Rattle.cell_layout.specs.Ranking.{IsRanked, AreRanked}
+use Rattle.cell_layout.specs.ColumnStats.{IsRanked, AreRanked}
 
 pub ranked_more : (rows : List Row) (n : ℕ) (all more : List RankedColumn) (it : RankedColumn) → AreRanked rows n all → IsRanked (ranked (column_values rows n)) it → more ≡ all ++ it ∷ [] → AreRanked rows (n + 1) more
 ranked_more rows n all more it before here pushed = subst (AreRanked rows (n + 1)) (sym pushed) (record {

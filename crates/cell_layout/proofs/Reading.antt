@@ -7,11 +7,11 @@ use Rattle.std.proofs.lemmas.List.{take_more, take_all, map-append, get_or_defau
 use Rattle.std.proofs.lemmas.List.Elements.{filter_map-append}
 use Rattle.std.proofs.lemmas.List.Folds.{list_all-append, list_all_at}
 use Rattle.blink_base.specs.declared.value.Value.{Value}
-use Rattle.blink_base.specs.Compared.{Row}
+use Rattle.blink_base.specs.Values.{Row}
 use Rattle.order_codes.specs.declared.place.CodePlace.{CodePlace}
-use Rattle.order_codes.specs.Places.{Classes, place_of_value, class_at}
+use Rattle.order_codes.specs.Dictionary.{Classes, place_of_value, class_at}
 use Rattle.cell_layout.specs.Image.{places_of, is_coded}
-use Rattle.cell_layout.specs.Places.{AreWithin}
+use Rattle.cell_layout.specs.CellIndex.{AreWithin}
 
 -- the class numbers of places, and their codes
 abbrev pub classes_in : List (Option CodePlace) → List ℕ

@@ -10,14 +10,14 @@ use Rattle.std.proofs.lemmas.List.Sums.{sum_by-cons, sum_by-append}
 use Rattle.blink_lists.specs.Lists.{numbered}
 use Rattle.blink_base.specs.declared.value.Value.{Value}
 use Rattle.blink_base.specs.declared.value.Value.TheVariants.{Int}
-use Rattle.blink_base.specs.Compared.{Row, same_value}
-use Rattle.blink_base.specs.Hashing.{value_equiv}
-use Rattle.blink_histogram.specs.Ranked.{Counted, counted, count_of, distinct_values}
-use Rattle.order_codes.specs.Places.{Classes, decoded}
+use Rattle.blink_base.specs.Values.{Row, same_value}
+use Rattle.blink_base.specs.ValueHash.{value_equiv}
+use Rattle.blink_histogram.specs.Ranks.{Counted, counted, count_of, distinct_values}
+use Rattle.order_codes.specs.Dictionary.{Classes, decoded}
 use Rattle.cell_layout.specs.declared.cell.Cell.{Cell}
 use Rattle.cell_layout.specs.declared.fault.LayoutError.TheVariants.{DuplicateKey}
 use Rattle.cell_layout.specs.Image.{column_values, decoded_row}
-use Rattle.cell_layout.specs.Kept.{IsKeptCell, row_kept, rows_kept}
+use Rattle.cell_layout.specs.CellRepr.{IsCellRepr, row_of_codes, rows_of_codes}
 use Rattle.cell_layout.specs.Refusals.{repeated_key, duplicate_of}
 use Rattle.cell_layout.specs.Standing.{rows_in}
 use Rattle.cell_layout.proofs.KeptRows.{has_codes, decoded_at, length-rows, row_at}
@@ -133,18 +133,18 @@ twice_here held keys row n count v new lt is none counts key number many =
     ap duplicate_of (first_twice held keys row (Int (pos 0)) lt none (ap (λ w. list_any (same_value w) (held ++ take row keys)) is ∙ often_here))
 
 -- the keys of a cell, as a loop reads them
-pub cell_key : (columns : List Classes) (cell : Cell) (row key : ℕ) (values : Classes) (classes : List ℕ) (code : ℕ) (v : Value) → IsKeptCell columns cell → row < cell.rows → key < length columns
-    → values ≡ get_or columns key values → classes ≡ cell.classes → code ≡ get_or (row_kept cell.codes row) key 0 → decoded values (get_or classes key 0) code ≡ Some v
+pub cell_key : (columns : List Classes) (cell : Cell) (row key : ℕ) (values : Classes) (classes : List ℕ) (code : ℕ) (v : Value) → IsCellRepr columns cell → row < cell.rows → key < length columns
+    → values ≡ get_or columns key values → classes ≡ cell.classes → code ≡ get_or (row_of_codes cell.codes row) key 0 → decoded values (get_or classes key 0) code ≡ Some v
     → get_or (column_values (rows_in columns cell) key) row (Int (pos 0)) ≡ v
 cell_key columns cell row key values classes code v kept row_in lt is at here found =
     let has = has_codes columns cell row kept row_in in
     let one : values ≡ get_or columns key [] = is ∙ get_or_default columns key values [] lt in
     let value = decoded_at columns cell row key v (Int (pos 0)) has lt (rw (one, at, here) at found) in
     let long = length-rows cell.codes cell.rows in
-    let all = length-map (rows_kept cell.codes cell.rows) (decoded_row columns cell.classes) in
+    let all = length-map (rows_of_codes cell.codes cell.rows) (decoded_row columns cell.classes) in
     get_or-map (λ (r : Row). get_or r key (Int (pos 0))) (rows_in columns cell) row [] (Int (pos 0)) (omega arith)
     ∙ ap (λ (r : Row). get_or r key (Int (pos 0)))
-    (get_or-map (decoded_row columns cell.classes) (rows_kept cell.codes cell.rows) row [] [] (omega arith) ∙ ap (decoded_row columns cell.classes) (row_at cell.codes cell.rows row [] row_in))
+    (get_or-map (decoded_row columns cell.classes) (rows_of_codes cell.codes cell.rows) row [] [] (omega arith) ∙ ap (decoded_row columns cell.classes) (row_at cell.codes cell.rows row [] row_in))
     ∙ value
 
 pub length-keys : (rows : List Row) (key : ℕ) → length (column_values rows key) ≡ length rows

@@ -7,13 +7,13 @@ use Rattle.std.proofs.lemmas.List.{ext_get_or, get_or-map, length-map}
 use Rattle.std.proofs.lemmas.List.Elements.{All-more}
 use Rattle.std.proofs.lemmas.List.{take_all}
 use Rattle.std.specs.declared.alloc.AllocError.{AllocError}
-use Rattle.blink_base.specs.Compared.{Row}
+use Rattle.blink_base.specs.Values.{Row}
 use Rattle.blink_lists.specs.Lists.{rises}
 use Rattle.cell_layout.specs.declared.cell.Cell.{Cell}
-use Rattle.cell_layout.specs.Laid.{cell_cmp}
-use Rattle.cell_layout.specs.Places.{IsFound, IsMissing, keys_of_cells, key_at}
-use Rattle.cell_layout.specs.Placing.{Rising}
-use Rattle.cell_layout.specs.Merging.{bare_cell, IsSameButRoom, AreRoomier, IsRoomier, AreRoomierCells, HaveRoom, HasRoomFor, HaveRoomFor}
+use Rattle.cell_layout.specs.Layout.{cell_cmp}
+use Rattle.cell_layout.specs.CellIndex.{IsFound, IsMissing, keys_of_cells, key_at}
+use Rattle.cell_layout.specs.InsertRow.{Rising}
+use Rattle.cell_layout.specs.MergeCells.{bare_cell, IsSameButRoom, AreRoomier, IsRoomier, AreRoomierCells, HaveRoom, HasRoomFor, HaveRoomFor}
 use Rattle.cell_layout.proofs.Finding.{rising-from, above-at, key-here}
 use Rattle.cell_layout.proofs.Putting.{empty_cell}
 use Rattle.cell_layout.proofs.PlacedRows.{on_ok}

@@ -6,10 +6,11 @@ use Rattle.std.proofs.Math.Pow.{pow_mono}
 use Rattle.std.proofs.lemmas.Bool.{and_parts, and_from, ltb-true, le-leb, leb-true, eqb-true, eq-eqb, cond_both}
 use Rattle.std.proofs.lemmas.List.Folds.{list_all-append, list_all-map}
 use Rattle.blink_lists.specs.Lists.{numbers_from}
-use Rattle.blink_lists.specs.Widths.{most_width, width_for}
-use Rattle.freq_partition.specs.Division.{Division, division_cmp, better, best_division, single_division, one_class, candidates, fronts, sizes_of, divided_by, most_classes}
-use Rattle.freq_partition.proofs.Sums.{sum-cons}
-use Rattle.cell_layout.specs.Laid.{division_if}
+use Rattle.blink_lists.specs.Widths.{width_for}
+use Rattle.blink_lists.specs.declared.limits.TheConstants.{MOST_WIDTH, MOST_CLASSES}
+use Rattle.freq_partition.specs.Division.{Division, division_cmp, better, best_division, single_division, one_class, candidates, fronts, sizes_of, divided_by}
+use Rattle.freq_partition.proofs.PrefixSumLemmas.{sum-cons}
+use Rattle.cell_layout.specs.Layout.{division_if}
 use Rattle.cell_layout.proofs.Passed.{all_weaker, all_kept}
 
 -- at most so many sizes, each at least 1, together n
@@ -47,7 +48,7 @@ unfolding fronts
 fronts_good zero least n some = and_from (are_sizes 1 n (n ∷ [])) true (sizes-one 0 n some) refl
 fronts_good (suc more) least n some =
     and_from (are_sizes (suc (suc more)) n (n ∷ [])) _ (sizes-one (suc more) n some)
-    (all-flat_map test good with_front (each (λ w some_left. fronts_good more w (n - 2 ^ w) some_left)) (filter test (numbers_from least (most_width + 1 - least))) (all_kept test (numbers_from least (most_width + 1 - least))))
+    (all-flat_map test good with_front (each (λ w some_left. fronts_good more w (n - 2 ^ w) some_left)) (filter test (numbers_from least (MOST_WIDTH + 1 - least))) (all_kept test (numbers_from least (MOST_WIDTH + 1 - least))))
   where
     test : ℕ → Bool
     test w = nat_lt (2 ^ w) n && nat_le w (width_for (n - 2 ^ w))
@@ -74,7 +75,7 @@ best_passes p best (x ∷ xs) first all =
     let parts = and_parts (p x) (list_all p xs) all in
     best_passes p (better best x) xs (cond_both (is_lt (division_cmp x best)) x best (λ d. p d ≡ true) (λ e. parts.0) (λ e. first)) parts.1
 
-pub best_sizes : (counts : List ℕ) → are_sizes most_classes (length counts) (best_division counts).sizes ≡ true
+pub best_sizes : (counts : List ℕ) → are_sizes MOST_CLASSES (length counts) (best_division counts).sizes ≡ true
 unfolding candidates
 best_sizes [] = refl
 best_sizes (c ∷ counts) =
@@ -82,11 +83,11 @@ best_sizes (c ∷ counts) =
     (list_all-map (λ (d : Division). are_sizes 4 (length (c ∷ counts)) d.sizes) (λ (front : List ℕ). divided_by (c ∷ counts) (sizes_of front (length (c ∷ counts)))) (fronts 3 1 (length (c ∷ counts)))
     ∙ fronts_good 3 1 (length (c ∷ counts)) (omega arith))
 
-pub single_sizes : (counts : List ℕ) → are_sizes most_classes (length counts) (single_division counts).sizes ≡ true
+pub single_sizes : (counts : List ℕ) → are_sizes MOST_CLASSES (length counts) (single_division counts).sizes ≡ true
 single_sizes [] = refl
 single_sizes (c ∷ counts) = sizes-one 3 (length (c ∷ counts)) (omega arith)
 
-pub sizes_if : (chosen : Bool) (counts : List ℕ) → are_sizes most_classes (length counts) (division_if chosen counts).sizes ≡ true
+pub sizes_if : (chosen : Bool) (counts : List ℕ) → are_sizes MOST_CLASSES (length counts) (division_if chosen counts).sizes ≡ true
 sizes_if true counts = best_sizes counts
 sizes_if false counts = single_sizes counts
 

@@ -6,7 +6,7 @@ use Rattle.std.proofs.lemmas.List.{take_more, take_all}
 use Rattle.std.proofs.lemmas.List.Folds.{list_all-append}
 use Rattle.blink_lists.specs.Widths.{width_for, least_width_from}
 use Rattle.masked_compare.specs.Fields.{is_width}
-use Rattle.order_codes.specs.Places.{Classes, class_width}
+use Rattle.order_codes.specs.Dictionary.{Classes, class_width}
 use Rattle.cell_layout.specs.Blocks.{cell_widths}
 
 least-from : (w n more : ℕ) → w ≤ least_width_from w n more

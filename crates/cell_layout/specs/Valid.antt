@@ -4,43 +4,19 @@ use Rattle.std.specs.List.{list_all, zip}
 use Rattle.std.specs.Str.{bytes_eq}
 use Rattle.blink_base.specs.declared.schema.Column.{Column}
 use Rattle.blink_base.specs.declared.schema.Schema.{Schema}
-use Rattle.blink_base.specs.Compared.{Row, same_value}
-use Rattle.blink_base.specs.Fits.{fits, is_entry}
-use Rattle.blink_base.specs.Words.{is_name}
+use Rattle.blink_base.specs.Values.{Row, same_value}
+use Rattle.blink_base.specs.RowFits.{fits, is_entry, is_schema}
+use Rattle.blink_base.specs.Identifiers.{is_name}
 use Rattle.blink_lists.specs.Lists.{are_distinct, rises, joined}
-use Rattle.blink_lists.specs.Rearranged.{Rearranged}
-use Rattle.order_codes.specs.Places.{Classes, are_classes, class_at}
+use Rattle.blink_lists.specs.Rearrangement.{Rearranged}
+use Rattle.order_codes.specs.Dictionary.{Classes, are_classes, class_at}
 use Rattle.cell_layout.specs.Image.{TableImage, CellImage, rows_of, column_values, is_coded}
-use Rattle.cell_layout.specs.Laid.{cell_cmp, laid, grown}
-
--- how many columns a table may have
-abbrev pub most_columns : ℕ
-most_columns = 32
-
--- how many columns may have several classes
-abbrev pub most_divided_columns : ℕ
-most_divided_columns = 3
+use Rattle.cell_layout.specs.Layout.{cell_cmp, laid, grown}
+use Rattle.blink_lists.specs.declared.limits.TheConstants.{MOST_COLUMNS, MOST_DIVIDED, MOST_ROWS}
 
 -- how many rows a cell, or rest, may have
 abbrev pub most_cell_rows : ℕ
 most_cell_rows = 4294967295
-
--- how many rows a table may have
-abbrev pub most_rows : ℕ
-most_rows = 8388608
-
--- the key, if any, is a column
-abbrev pub is_key_of : List Column → Option ℕ → Bool
-is_key_of columns None = true
-is_key_of columns (Some key) = nat_lt key (length columns)
-
--- 1 to 32 columns of distinct names, and a key among them
-abbrev pub is_schema : Schema → Bool
-is_schema schema =
-    nat_le 1 (length schema.columns) && nat_le (length schema.columns) most_columns
-    && list_all (λ c. is_name c.name) schema.columns
-    && are_distinct bytes_eq (map (λ c. c.name) schema.columns)
-    && is_key_of schema.columns schema.key
 
 -- a column's classes hold good values of its kind alone
 abbrev pub are_column_classes : Column → Classes → Bool
@@ -51,7 +27,7 @@ abbrev pub are_divided : Schema → List Classes → Bool
 are_divided schema columns =
     length columns == length schema.columns
     && list_all (λ p. are_column_classes p.0 p.1) (zip schema.columns columns)
-    && nat_le (count_by (λ classes. nat_lt 1 (length classes)) columns) most_divided_columns
+    && nat_le (count_by (λ classes. nat_lt 1 (length classes)) columns) MOST_DIVIDED
 
 -- a number of rows that fits a cell, where it has any
 abbrev pub is_row_count : List (List ℕ) → Bool
@@ -92,7 +68,7 @@ is_valid image =
 -- rows that a table of this schema may hold
 pub record MayHold (schema : Schema) (rows : List Row) : Type 0 where
   pub allowed : IsTrue (is_schema schema)
-  pub few : length rows ≤ most_rows
+  pub few : length rows ≤ MOST_ROWS
   pub fit : IsTrue (list_all (fits schema) rows)
   pub keyed : IsTrue (are_keyed schema.key rows)
 

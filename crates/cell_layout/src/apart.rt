@@ -2,14 +2,14 @@
 ghost use Rattle.std.specs.Prelude.{◌≡◌, ◌<◌, ◌≤◌, ◌+◌, ◌++◌, All, OnOk, IfSome, List as Listed, None, length, nat_lt};
 ghost use Rattle.std.specs.List.{flat_map};
 ghost use Rattle.blink_base.specs.declared.value.Value.{Value as Kept};
-ghost use Rattle.blink_histogram.specs.Ranked.{counted};
-ghost use Rattle.blink_histogram.specs.Numbering.{numbered_values};
+ghost use Rattle.blink_histogram.specs.Ranks.{counted};
+ghost use Rattle.blink_histogram.specs.InternerRepr.{numbered_values};
 ghost use Rattle.cell_layout.specs.Image.{column_values};
-ghost use Rattle.cell_layout.specs.Kept.{IsKeptCell};
-ghost use Rattle.cell_layout.specs.Putting.{rows_in_all};
+ghost use Rattle.cell_layout.specs.CellRepr.{IsCellRepr};
+ghost use Rattle.cell_layout.specs.InsertRowRepr.{rows_in_all};
 ghost use Rattle.cell_layout.specs.Standing.{all_rows, rows_in};
 ghost use Rattle.cell_layout.specs.Refusals.{duplicate_in, duplicate_of, repeated_key, IsRefusal};
-ghost use Rattle.cell_layout.specs.Valid.{most_rows};
+ghost use Rattle.blink_lists.specs.declared.limits.TheConstants.{MOST_ROWS};
 
 use crate::column::number_column;
 use crate::{Cell, LayoutError};
@@ -38,7 +38,7 @@ pub(crate) fn keys_apart(
 ) -> Result<(), LayoutError>
     requires held { IfSome key (λ k. All (λ row. k < length row) held.now) }
     requires batch { IfSome key (λ k. All (λ row. k < length row) batch.now) }
-    requires few { length held.now + length batch.now ≤ most_rows }
+    requires few { length held.now + length batch.now ≤ MOST_ROWS }
     ensures { IsRefusal result (duplicate_in key held.now batch.now) }
 {
     let Some(key) = key else { return Ok(()) };
@@ -57,11 +57,11 @@ pub(crate) fn kept_keys_apart<M: Ledger>(
     batch: &[Row],
     decodes: &mut Steps<M>,
 ) -> Result<(), LayoutError>
-    requires kept { All (IsKeptCell dicts.now) cells.now }
+    requires kept { All (IsCellRepr dicts.now) cells.now }
     requires key { IfSome key (λ k. k < length dicts.now) }
     requires rest { IfSome key (λ k. All (λ row. k < length row) rest.now) }
     requires batch { IfSome key (λ k. All (λ row. k < length row) batch.now) }
-    requires few { rows_in_all cells.now + length rest.now + length batch.now ≤ most_rows }
+    requires few { rows_in_all cells.now + length rest.now + length batch.now ≤ MOST_ROWS }
     ensures refused { IsRefusal result (duplicate_in key (all_rows dicts.now cells.now rest.now) batch.now) }
     ensures decodes { key ≡ None → decodes.new ≡ decodes.old }
 {
@@ -80,9 +80,9 @@ fn number_cells<M: Ledger>(
     key: usize,
     decodes: &mut Steps<M>,
 ) -> Result<(), AllocError>
-    requires kept { All (IsKeptCell dicts.now) cells.now }
+    requires kept { All (IsCellRepr dicts.now) cells.now }
     requires key { key < length dicts.now }
-    requires few { numbered_values keys.old + rows_in_all cells.now ≤ most_rows }
+    requires few { numbered_values keys.old + rows_in_all cells.now ≤ MOST_ROWS }
     ensures values { OnOk result ((before : Listed Kept) → keys.old ≡ counted before → keys.new ≡ counted (before ++ column_values (flat_map (rows_in dicts.now) cells.now) key)) }
     ensures number { OnOk result (numbered_values keys.new ≡ numbered_values keys.old + rows_in_all cells.now) }
 {
@@ -100,9 +100,9 @@ fn number_cell<M: Ledger>(
     key: usize,
     decodes: &mut Steps<M>,
 ) -> Result<(), AllocError>
-    requires kept { IsKeptCell dicts.now cell.now }
+    requires kept { IsCellRepr dicts.now cell.now }
     requires key { key < length dicts.now }
-    requires few { numbered_values keys.old + cell.now.rows ≤ most_rows }
+    requires few { numbered_values keys.old + cell.now.rows ≤ MOST_ROWS }
     ensures values { OnOk result ((before : Listed Kept) → keys.old ≡ counted before → keys.new ≡ counted (before ++ column_values (rows_in dicts.now cell.now) key)) }
     ensures number { OnOk result (numbered_values keys.new ≡ numbered_values keys.old + cell.now.rows) }
 {
@@ -118,7 +118,7 @@ fn number_cell<M: Ledger>(
 // Numbers the keys of a batch; the first row whose key was numbered before is refused.
 fn new_keys(keys: &mut Interner, batch: &[Row], key: usize) -> Result<(), LayoutError>
     requires within { All (λ row. key < length row) batch.now }
-    requires few { numbered_values keys.old + length batch.now ≤ most_rows }
+    requires few { numbered_values keys.old + length batch.now ≤ MOST_ROWS }
     ensures { (held : Listed Kept) → keys.old ≡ counted held → IsRefusal result (duplicate_of (repeated_key held (column_values batch.now key))) }
 {
     for row in 0..batch.len() {

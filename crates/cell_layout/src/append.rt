@@ -1,12 +1,13 @@
 // Rows added to an image.
 ghost use Rattle.std.specs.Prelude.{◌≡◌, ◌≤◌, ◌++◌, IsTrue, OnOk, OnErr, None};
 ghost use Rattle.std.specs.List.{list_all};
-ghost use Rattle.blink_base.specs.Fits.{fits};
-ghost use Rattle.blink_lists.specs.Rearranged.{Rearranged};
+ghost use Rattle.blink_base.specs.RowFits.{fits};
+ghost use Rattle.blink_lists.specs.Rearrangement.{Rearranged};
 ghost use Rattle.cell_layout.specs.Image.{rows_of};
-ghost use Rattle.cell_layout.specs.Laid.{grown};
+ghost use Rattle.cell_layout.specs.Layout.{grown};
 ghost use Rattle.cell_layout.specs.Refusals.{refusal_of, IsRefusal};
-ghost use Rattle.cell_layout.specs.Valid.{most_rows, is_valid};
+ghost use Rattle.cell_layout.specs.Valid.{is_valid};
+ghost use Rattle.blink_lists.specs.declared.limits.TheConstants.{MOST_ROWS};
 
 use crate::apart::{exceed, kept_keys_apart};
 use crate::merge::add_placed;
@@ -34,7 +35,7 @@ impl<M: Ledger> Image<M> {
         decodes: &mut Steps<M>,
     ) -> Result<(), LayoutError>
         requires valid { IsTrue (is_valid self.old) }
-        requires limit { limit ≤ most_rows }
+        requires limit { limit ≤ MOST_ROWS }
         requires fit { IsTrue (list_all (fits self.old.schema) batch.now) }
         ensures grown { OnOk result (self.new ≡ grown self.old batch.now) }
         ensures valid { OnOk result (IsTrue (is_valid self.new)) }

@@ -1,13 +1,13 @@
 // Rows laid out anew.
 ghost use Rattle.std.specs.Prelude.{◌≡◌, ◌≤◌, ◌+◌, ◌++◌, All, IsTrue, IfErr, IfOk, length};
 ghost use Rattle.std.specs.List.{list_all};
-ghost use Rattle.blink_base.specs.Fits.{fits};
-ghost use Rattle.blink_lists.specs.Rearranged.{Rearranged};
+ghost use Rattle.blink_base.specs.RowFits.{fits};
+ghost use Rattle.blink_lists.specs.Rearrangement.{Rearranged};
 ghost use Rattle.cell_layout.specs.Image.{rows_of};
-ghost use Rattle.cell_layout.specs.Laid.{laid};
+ghost use Rattle.cell_layout.specs.Layout.{laid};
 ghost use Rattle.cell_layout.specs.Refusals.{refusal_of, IsRefusal};
-ghost use Rattle.cell_layout.specs.Valid.{most_rows, is_valid, MayHold};
-ghost use Rattle.cell_layout.specs.Kept.{most_image_columns};
+ghost use Rattle.cell_layout.specs.Valid.{is_valid, MayHold};
+ghost use Rattle.blink_lists.specs.declared.limits.TheConstants.{MOST_ROWS, MOST_COLUMNS};
 
 use crate::apart::{exceed, keys_apart};
 use crate::dicts::dicts_of;
@@ -49,7 +49,7 @@ impl<M: Ledger> Image<M> {
         decodes: &mut Steps<M>,
     ) -> Result<Image<M>, LayoutError>
         requires valid { IsTrue (is_valid self.now) }
-        requires limit { limit ≤ most_rows }
+        requires limit { limit ≤ MOST_ROWS }
         requires fit { IsTrue (list_all (fits self.now.schema) batch.now) }
         ensures laid { IfOk result (λ image. image ≡ laid self.now.schema (rows_of self.now ++ batch.now)) }
         ensures valid { IfOk result (λ image. IsTrue (is_valid image)) }
@@ -71,10 +71,10 @@ impl<M: Ledger> Image<M> {
         held: &[Row],
         batch: &[Row],
     ) -> Result<Image<M>, AllocError>
-        requires columns { length schema.now.columns ≤ most_image_columns }
+        requires columns { length schema.now.columns ≤ MOST_COLUMNS }
         requires held { All (λ row. length row ≡ length schema.now.columns) held.now }
         requires batch { All (λ row. length row ≡ length schema.now.columns) batch.now }
-        requires few { length held.now + length batch.now ≤ most_rows }
+        requires few { length held.now + length batch.now ≤ MOST_ROWS }
         ensures { IfOk result (λ image. image ≡ laid schema.now (held.now ++ batch.now)) }
     {
         let dicts = dicts_of(alloc, held, batch, schema.columns.len())?;

@@ -1,15 +1,14 @@
 // Rows whose values are in the same classes.
 ghost use Rattle.std.specs.Prelude.{◌≡◌, ◌≢◌, ◌<◌, ◌≤◌, ◌*◌, ◌+◌, ◌++◌, ◌∷◌, [], ℕ, List as Listed, OnOk, All, length, sum_by, slice_index_or as get_or};
 ghost use Rattle.bank_pack.specs.Banks.{blocks_for, page_blocks, pages_for};
-ghost use Rattle.cell_layout.specs.Places.{HasPushed};
-ghost use Rattle.cell_layout.specs.Kept.{row_kept, most_image_columns, most_image_rows};
+ghost use Rattle.cell_layout.specs.CellIndex.{HasPushed};
+ghost use Rattle.cell_layout.specs.CellRepr.{row_of_codes, most_image_rows};
+ghost use Rattle.blink_lists.specs.declared.limits.TheConstants.{MOST_COLUMNS};
 
 use bank_pack::BankPlan;
 use blink_base::{List, Roomy};
+use blink_lists::PAGE_ROWS;
 use std::alloc::AllocError;
-
-/// How many rows a page has.
-const PAGE_ROWS: u64 = 1024;
 
 /// The rows whose values are in the same classes. Source: after Raman et al., ICDE 2008 (cells of a frequency partition).
 #[derive(Drop)]
@@ -31,7 +30,7 @@ impl Cell {
         requires full { All (λ codes. length codes.0 ≡ self.now.rows) self.now.codes }
         requires column { column < length self.now.codes }
         requires row { row < self.now.rows }
-        ensures { result ≡ get_or (row_kept self.now.codes row) column 0 }
+        ensures { result ≡ get_or (row_of_codes self.now.codes row) column 0 }
     {
         self.codes.as_slice()[column].as_slice()[row as usize]
     }
@@ -52,7 +51,7 @@ impl Cell {
 
     // How many blocks its rows take.
     pub(crate) fn blocks(&self) -> u64
-        requires banks { length self.now.plan ≤ most_image_columns }
+        requires banks { length self.now.plan ≤ MOST_COLUMNS }
         requires rows { self.now.rows ≤ most_image_rows }
         ensures number { result ≡ blocks_for self.now.plan self.now.rows }
         ensures few { result ≤ self.now.rows * 128 }
@@ -97,7 +96,7 @@ fn pages_of(rows: u64) -> u64
 // How many blocks a page of each bank takes.
 #[tactic(auto, using(crate::proofs::BlockCounts::page_few))]
 fn page_blocks(plan: &BankPlan) -> u64
-    requires { length plan.now ≤ most_image_columns }
+    requires { length plan.now ≤ MOST_COLUMNS }
     ensures number { result ≡ sum_by page_blocks plan.now }
     ensures few { result ≤ 128 }
 {

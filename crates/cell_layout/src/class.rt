@@ -1,10 +1,10 @@
 // A class of a column.
 ghost use Rattle.std.specs.Prelude.{◌≡◌, ◌≤◌, IfOk, Some, List as Listed, map, slice_get, sum, length};
-ghost use Rattle.cell_layout.specs.Laid.{classes_by};
+ghost use Rattle.cell_layout.specs.Layout.{classes_by};
 ghost use Rattle.blink_lists.specs.Lists.{in_order};
-ghost use Rattle.blink_base.specs.Compared.{value_cmp};
-ghost use Rattle.blink_histogram.specs.Ranked.{Counted};
-ghost use Rattle.cell_layout.specs.Ranking.{HasValues};
+ghost use Rattle.blink_base.specs.Values.{value_cmp};
+ghost use Rattle.blink_histogram.specs.Ranks.{Counted};
+ghost use Rattle.cell_layout.specs.ColumnStats.{HasValues};
 
 use blink_base::{List, Value};
 use blink_histogram::Interner;

@@ -14,7 +14,7 @@ pub(crate) struct RowCodes {
 impl RowCodes {
     ghost use Rattle.std.specs.Prelude.{◌≡◌, OnOk, true, length, Ok};
     ghost use Rattle.cell_layout.specs.Image.{is_coded, coded};
-    ghost use Rattle.cell_layout.specs.Places.{AreWithin};
+    ghost use Rattle.cell_layout.specs.CellIndex.{AreWithin};
 
     // Of no row yet, with room for so many columns.
     pub(crate) fn new(alloc: Global, columns: usize) -> Result<RowCodes, AllocError> {

@@ -1,10 +1,10 @@
 // The values of a column.
 ghost use Rattle.std.specs.Prelude.{◌≡◌, ◌<◌, ◌≤◌, ◌+◌, ◌++◌, All, IfOk, OnOk, List as Listed, length};
 ghost use Rattle.blink_base.specs.declared.value.Value.{Value as Kept};
-ghost use Rattle.blink_histogram.specs.Ranked.{counted};
-ghost use Rattle.blink_histogram.specs.Numbering.{numbered_values};
+ghost use Rattle.blink_histogram.specs.Ranks.{counted};
+ghost use Rattle.blink_histogram.specs.InternerRepr.{numbered_values};
 ghost use Rattle.cell_layout.specs.Image.{column_values};
-ghost use Rattle.cell_layout.specs.Valid.{most_rows};
+ghost use Rattle.blink_lists.specs.declared.limits.TheConstants.{MOST_ROWS};
 
 use blink_base::Row;
 use blink_histogram::Interner;
@@ -19,7 +19,7 @@ pub(crate) fn interned(
 ) -> Result<Interner, AllocError>
     requires held { All (λ row. column < length row) held.now }
     requires batch { All (λ row. column < length row) batch.now }
-    requires few { length held.now + length batch.now ≤ most_rows }
+    requires few { length held.now + length batch.now ≤ MOST_ROWS }
     ensures values { IfOk result (λ interner. interner ≡ counted (column_values (held.now ++ batch.now) column)) }
     ensures number { IfOk result (λ interner. numbered_values interner ≡ length held.now + length batch.now) }
 {
@@ -36,7 +36,7 @@ pub(crate) fn number_column(
     column: usize,
 ) -> Result<(), AllocError>
     requires within { All (λ row. column < length row) rows.now }
-    requires few { numbered_values interner.old + length rows.now ≤ most_rows }
+    requires few { numbered_values interner.old + length rows.now ≤ MOST_ROWS }
     ensures values { OnOk result ((before : Listed Kept) → interner.old ≡ counted before → interner.new ≡ counted (before ++ column_values rows.now column)) }
     ensures number { OnOk result (numbered_values interner.new ≡ numbered_values interner.old + length rows.now) }
 {

@@ -1,11 +1,10 @@
 // The dictionaries of rows.
 ghost use Rattle.std.specs.Prelude.{◌≡◌, ◌≤◌, ◌+◌, ◌++◌, ◌==◌, All, IfOk, length, take};
 ghost use Rattle.std.specs.List.{list_any};
-ghost use Rattle.cell_layout.specs.Laid.{divided_columns, ranked_columns};
-ghost use Rattle.cell_layout.specs.Kept.{most_image_columns};
-ghost use Rattle.cell_layout.specs.Valid.{most_rows};
+ghost use Rattle.cell_layout.specs.Layout.{divided_columns, ranked_columns};
+ghost use Rattle.blink_lists.specs.declared.limits.TheConstants.{MOST_COLUMNS, MOST_ROWS};
 
-use crate::ranks::ranked_columns;
+use crate::column_stats::ranked_columns;
 use crate::savings::savings_of;
 use blink_base::{List, Row};
 use freq_partition::{Chosen, choose_columns};
@@ -20,10 +19,10 @@ pub(crate) fn dicts_of<M: Ledger>(
     batch: &[Row],
     columns: usize,
 ) -> Result<List<Dict<M>>, AllocError>
-    requires columns { columns ≤ most_image_columns }
+    requires columns { columns ≤ MOST_COLUMNS }
     requires held { All (λ row. length row ≡ columns) held.now }
     requires batch { All (λ row. length row ≡ columns) batch.now }
-    requires few { length held.now + length batch.now ≤ most_rows }
+    requires few { length held.now + length batch.now ≤ MOST_ROWS }
     ensures { IfOk result (λ dicts. dicts ≡ divided_columns (ranked_columns (held.now ++ batch.now) columns)) }
 {
     let all = ranked_columns(alloc, held, batch, columns)?;

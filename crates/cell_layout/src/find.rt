@@ -1,8 +1,8 @@
 // The cell of a row.
 ghost use Rattle.std.specs.Prelude.{◌≡◌, IsTrue};
 ghost use Rattle.blink_lists.specs.Lists.{rises};
-ghost use Rattle.cell_layout.specs.Laid.{cell_cmp};
-ghost use Rattle.cell_layout.specs.Places.{keys_of_cells, IsCellPlace};
+ghost use Rattle.cell_layout.specs.Layout.{cell_cmp};
+ghost use Rattle.cell_layout.specs.CellIndex.{keys_of_cells, IsCellPlace};
 
 use crate::Cell;
 

@@ -3,9 +3,9 @@ ghost use Rattle.std.specs.Prelude.{◌≡◌, ◌<◌, ◌≤◌, ℕ, IfOk, []
 ghost use Rattle.std.specs.List.{list_all};
 ghost use Rattle.masked_compare.specs.Fields.{is_width};
 ghost use Rattle.cell_layout.specs.Blocks.{banks_for, cell_widths};
-ghost use Rattle.cell_layout.specs.Kept.{most_image_columns};
-ghost use Rattle.cell_layout.specs.Places.{AreWithin};
-ghost use Rattle.cell_layout.specs.Putting.{IsFirst};
+ghost use Rattle.blink_lists.specs.declared.limits.TheConstants.{MOST_COLUMNS};
+ghost use Rattle.cell_layout.specs.CellIndex.{AreWithin};
+ghost use Rattle.cell_layout.specs.InsertRowRepr.{IsFirst};
 
 use crate::Cell;
 use crate::codes::RowCodes;
@@ -22,7 +22,7 @@ impl Cell {
         dicts: &[Dict<M>],
         row: &RowCodes,
     ) -> Result<Cell, AllocError>
-        requires few { length dicts.now ≤ most_image_columns }
+        requires few { length dicts.now ≤ MOST_COLUMNS }
         requires within { AreWithin dicts.now row.now.classes.items row.now.codes.items (length dicts.now) }
         ensures { IfOk result (λ cell. IsFirst dicts.now cell row.now.classes.items row.now.codes.items) }
     {
@@ -44,7 +44,7 @@ fn plan_of<M: Ledger>(
     dicts: &[Dict<M>],
     classes: &[u32],
 ) -> Result<BankPlan, AllocError>
-    requires few { length dicts.now ≤ most_image_columns }
+    requires few { length dicts.now ≤ MOST_COLUMNS }
     requires count { length classes.now ≡ length dicts.now }
     requires numbers { (k : ℕ) → k < length dicts.now → get_or classes.now k 0 < length (get_or dicts.now k []) }
     ensures { IfOk result (λ plan. plan ≡ banks_for dicts.now classes.now) }

@@ -1,7 +1,8 @@
 // What a table is in memory.
 ghost use Rattle.std.specs.Prelude.{◌≡◌, IsTrue, IfOk, map, []};
-ghost use Rattle.cell_layout.specs.Laid.{empty_image};
-ghost use Rattle.cell_layout.specs.Valid.{is_schema, is_valid};
+ghost use Rattle.cell_layout.specs.Layout.{empty_image};
+ghost use Rattle.cell_layout.specs.Valid.{is_valid};
+ghost use Rattle.blink_base.specs.RowFits.{is_schema};
 
 use crate::Cell;
 use blink_base::{Column, List, Roomy, Row, Schema};
@@ -28,13 +29,13 @@ pub struct Image<M: Ledger> {
 
 impl<M: Ledger> Model for Image<M> {
     ghost use Rattle.cell_layout.specs.Image.{TableImage};
-    ghost use Rattle.cell_layout.specs.Kept.{image_kept, IsKept};
+    ghost use Rattle.cell_layout.specs.CellRepr.{image_of, IsImageRepr};
 
     ghost Value = { TableImage };
 
-    ghost view = { λ a. image_kept a.schema a.dicts a.cells.0 a.rest.0 };
+    ghost view = { λ a. image_of a.schema a.dicts a.cells.0 a.rest.0 };
 
-    ghost invariant = { λ a. IsKept a.schema a.dicts a.cells.0 a.rest.0 a.rows };
+    ghost invariant = { λ a. IsImageRepr a.schema a.dicts a.cells.0 a.rest.0 a.rows };
 }
 
 impl<M: Ledger> Image<M> {

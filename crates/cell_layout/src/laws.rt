@@ -1,6 +1,6 @@
 //! Laws of the layout, which its definitions meet. Source: this project's own.
 
-ghost use Rattle.cell_layout.specs.Again.{StandsPlaced};
+ghost use Rattle.cell_layout.specs.Repartition.{StandsPlaced};
 ghost use Rattle.cell_layout.specs.Valid.{LaidIsValid, GrownIsValid};
 
 /// Rows laid out anew are a valid image of these rows in another order.

@@ -1,14 +1,14 @@
 // Rows that were placed apart, added to standing cells.
 ghost use Rattle.std.specs.Prelude.{◌≡◌, ◌≢◌, ◌<◌, ◌≤◌, ◌+◌, ◌++◌, ℕ, [], ◌∷◌, List as Listed, IsTrue, OnOk, OnErr, length, slice_index_or as get_or};
 ghost use Rattle.blink_lists.specs.Lists.{rises};
-ghost use Rattle.blink_base.specs.Compared.{Row as Values};
-ghost use Rattle.order_codes.specs.Places.{Classes};
-ghost use Rattle.cell_layout.specs.Laid.{cell_cmp};
-ghost use Rattle.cell_layout.specs.Valid.{most_rows};
-ghost use Rattle.cell_layout.specs.Places.{keys_of_cells};
-ghost use Rattle.cell_layout.specs.Putting.{rows_in_all};
-ghost use Rattle.cell_layout.specs.Placed.{ArePlaced};
-ghost use Rattle.cell_layout.specs.Merging.{AreBothPlaced, IsSameButRoom, AreAlike, AreMerged, IsMergedIn, IsAbsorbedAt, IsAbsorbed, HasAppended, HaveRoomFor, HasRoomFor};
+ghost use Rattle.blink_base.specs.Values.{Row as Values};
+ghost use Rattle.order_codes.specs.Dictionary.{Classes};
+ghost use Rattle.cell_layout.specs.Layout.{cell_cmp};
+ghost use Rattle.blink_lists.specs.declared.limits.TheConstants.{MOST_ROWS};
+ghost use Rattle.cell_layout.specs.CellIndex.{keys_of_cells};
+ghost use Rattle.cell_layout.specs.InsertRowRepr.{rows_in_all};
+ghost use Rattle.cell_layout.specs.RowPartition.{ArePlaced};
+ghost use Rattle.cell_layout.specs.MergeCells.{AreBothPlaced, IsSameButRoom, AreAlike, AreMerged, IsMergedIn, IsAbsorbedAt, IsAbsorbed, HasAppended, HaveRoomFor, HasRoomFor};
 
 use crate::Cell;
 use crate::find::find_cell;
@@ -42,7 +42,7 @@ fn merge(cells: &mut Roomy<Cell>, more: Vec<Cell>)
     requires alike { AreAlike cells.old.0 more.items }
     requires order { IsTrue (rises cell_cmp (keys_of_cells cells.old.0)) }
     requires order_more { IsTrue (rises cell_cmp (keys_of_cells more.items)) }
-    requires few { rows_in_all cells.old.0 + rows_in_all more.items ≤ most_rows }
+    requires few { rows_in_all cells.old.0 + rows_in_all more.items ≤ MOST_ROWS }
     requires room { HaveRoomFor cells.old.0 more.items }
     requires spare { length more.items ≤ cells.old.1 }
     ensures { AreMerged cells.old.0 more.items cells.new.0 [] }
@@ -56,7 +56,7 @@ fn merge(cells: &mut Roomy<Cell>, more: Vec<Cell>)
 fn merge_cell(cells: &mut Roomy<Cell>, cell: Cell)
     requires alike { AreAlike cells.old.0 (cell ∷ []) }
     requires order { IsTrue (rises cell_cmp (keys_of_cells cells.old.0)) }
-    requires few { rows_in_all cells.old.0 + cell.rows ≤ most_rows }
+    requires few { rows_in_all cells.old.0 + cell.rows ≤ MOST_ROWS }
     requires room { HasRoomFor cells.old.0 cell.classes cell.rows }
     requires spare { 1 ≤ cells.old.1 }
     ensures merged { IsMergedIn cells.old.0 cells.new.0 cell }
@@ -73,7 +73,7 @@ fn absorb_at(cells: &mut Roomy<Cell>, at: usize, more: &Cell)
     requires within { at < length cells.old.0 }
     requires columns { (d : Cell) → length more.now.codes ≡ length (get_or cells.old.0 at d).codes }
     requires room { (d : Cell) (k : ℕ) (e : Listed ℕ × ℕ) → k < length more.now.codes → length (get_or more.now.codes k e).0 ≤ (get_or (get_or cells.old.0 at d).codes k e).1 }
-    requires few { (d : Cell) → (get_or cells.old.0 at d).rows + more.now.rows ≤ most_rows }
+    requires few { (d : Cell) → (get_or cells.old.0 at d).rows + more.now.rows ≤ MOST_ROWS }
     ensures absorbed { IsAbsorbedAt cells.old.0 cells.new.0 at more.now }
     ensures spare { cells.new.1 ≡ cells.old.1 }
 {
@@ -87,7 +87,7 @@ fn absorb_at(cells: &mut Roomy<Cell>, at: usize, more: &Cell)
 fn absorb(cell: &mut Cell, more: &Cell)
     requires columns { length more.now.codes ≡ length cell.old.codes }
     requires room { (k : ℕ) (e : Listed ℕ × ℕ) → k < length more.now.codes → length (get_or more.now.codes k e).0 ≤ (get_or cell.old.codes k e).1 }
-    requires few { cell.old.rows + more.now.rows ≤ most_rows }
+    requires few { cell.old.rows + more.now.rows ≤ MOST_ROWS }
     ensures { IsAbsorbed cell.old cell.new more.now }
 {
     append_columns(&mut cell.codes, more.codes.as_slice());

@@ -1,13 +1,13 @@
 // Rows placed in cells one by one.
 ghost use Rattle.std.specs.Prelude.{◌≡◌, ◌<◌, ◌≤◌, ◌+◌, ◌++◌, ℕ, All, IsTrue, IfOk, OnOk, List as Listed, length, slice_index_or as get_or};
-ghost use Rattle.blink_base.specs.Compared.{Row as Values};
+ghost use Rattle.blink_base.specs.Values.{Row as Values};
 ghost use Rattle.blink_lists.specs.Lists.{rises};
-ghost use Rattle.cell_layout.specs.Laid.{cell_cmp};
-ghost use Rattle.cell_layout.specs.Valid.{most_rows};
-ghost use Rattle.cell_layout.specs.Kept.{IsKeptCell, most_image_columns, most_image_rows};
-ghost use Rattle.cell_layout.specs.Places.{AreWithin, keys_of_cells};
-ghost use Rattle.cell_layout.specs.Putting.{IsPushed, IsPut, rows_in_all};
-ghost use Rattle.cell_layout.specs.Placed.{ArePlaced, HasRoomBehind};
+ghost use Rattle.cell_layout.specs.Layout.{cell_cmp};
+ghost use Rattle.blink_lists.specs.declared.limits.TheConstants.{MOST_ROWS, MOST_COLUMNS};
+ghost use Rattle.cell_layout.specs.CellRepr.{IsCellRepr, most_image_rows};
+ghost use Rattle.cell_layout.specs.CellIndex.{AreWithin, keys_of_cells};
+ghost use Rattle.cell_layout.specs.InsertRowRepr.{IsPushed, IsPut, rows_in_all};
+ghost use Rattle.cell_layout.specs.RowPartition.{ArePlaced, HasRoomBehind};
 
 use crate::Cell;
 use crate::codes::RowCodes;
@@ -31,10 +31,10 @@ pub(crate) fn place_rows<M: Ledger>(
     held: &[Row],
     batch: &[Row],
 ) -> Result<PlacedRows, AllocError>
-    requires columns { length dicts.now ≤ most_image_columns }
+    requires columns { length dicts.now ≤ MOST_COLUMNS }
     requires held { All (λ row. length row ≡ length dicts.now) held.now }
     requires batch { All (λ row. length row ≡ length dicts.now) batch.now }
-    requires few { length held.now + length batch.now ≤ most_rows }
+    requires few { length held.now + length batch.now ≤ MOST_ROWS }
     ensures { IfOk result (λ placed. ArePlaced dicts.now (held.now ++ batch.now) placed.cells.0 placed.rest.0) }
 {
     let mut placed = PlacedRows {
@@ -55,7 +55,7 @@ fn place_more<M: Ledger>(
     codes: &mut RowCodes,
     placed: &mut PlacedRows,
 ) -> Result<(), AllocError>
-    requires columns { length dicts.now ≤ most_image_columns }
+    requires columns { length dicts.now ≤ MOST_COLUMNS }
     requires full { All (λ row. length row ≡ length dicts.now) rows.now }
     requires room { HasRoomBehind dicts.now placed.old.cells.0 placed.old.rest.0 (length rows.now) }
     ensures { OnOk result ((before : Listed Values) → ArePlaced dicts.now before placed.old.cells.0 placed.old.rest.0 → ArePlaced dicts.now (before ++ rows.now) placed.new.cells.0 placed.new.rest.0) }
@@ -77,10 +77,10 @@ fn put_row<M: Ledger>(
     cells: &mut Roomy<Cell>,
     row: &RowCodes,
 ) -> Result<(), AllocError>
-    requires columns { length dicts.now ≤ most_image_columns }
-    requires kept { All (IsKeptCell dicts.now) cells.old.0 }
+    requires columns { length dicts.now ≤ MOST_COLUMNS }
+    requires kept { All (IsCellRepr dicts.now) cells.old.0 }
     requires order { IsTrue (rises cell_cmp (keys_of_cells cells.old.0)) }
-    requires few { rows_in_all cells.old.0 < most_rows }
+    requires few { rows_in_all cells.old.0 < MOST_ROWS }
     requires within { AreWithin dicts.now row.now.classes.items row.now.codes.items (length dicts.now) }
     ensures { OnOk result (IsPut dicts.now cells.old.0 cells.new.0 row.now.classes.items row.now.codes.items) }
 {

@@ -1,9 +1,9 @@
 // Room for rows that were placed apart.
 ghost use Rattle.std.specs.Prelude.{◌≡◌, ◌≢◌, ◌<◌, ◌≤◌, ℕ, List as Listed, IsTrue, OnOk, length, slice_index_or as get_or};
 ghost use Rattle.blink_lists.specs.Lists.{rises};
-ghost use Rattle.cell_layout.specs.Laid.{cell_cmp};
-ghost use Rattle.cell_layout.specs.Places.{keys_of_cells};
-ghost use Rattle.cell_layout.specs.Merging.{IsSameButRoom, AreRoomier, IsRoomier, AreRoomierCells, HaveRoom, HasRoomFor, HaveRoomFor};
+ghost use Rattle.cell_layout.specs.Layout.{cell_cmp};
+ghost use Rattle.cell_layout.specs.CellIndex.{keys_of_cells};
+ghost use Rattle.cell_layout.specs.MergeCells.{IsSameButRoom, AreRoomier, IsRoomier, AreRoomierCells, HaveRoom, HasRoomFor, HaveRoomFor};
 
 use crate::Cell;
 use crate::find::find_cell;

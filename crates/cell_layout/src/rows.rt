@@ -1,7 +1,7 @@
 // The rows of an image.
 ghost use Rattle.std.specs.Prelude.{◌≡◌, ◌<◌, ◌≤◌, ◌+◌, ◌++◌, IfOk, OnOk, Some, [], length, slice_get, slice_index_or as get_or};
 ghost use Rattle.cell_layout.specs.Image.{rows_of, row_count, cell_at, decoded_row};
-ghost use Rattle.cell_layout.specs.Kept.{IsKeptCell, row_kept};
+ghost use Rattle.cell_layout.specs.CellRepr.{IsCellRepr, row_of_codes};
 ghost use Rattle.cell_layout.specs.Standing.{rows_in};
 
 use crate::{Cell, Image};
@@ -63,7 +63,7 @@ fn push_rows<M: Ledger>(
     rows: &mut Vec<Row>,
     decodes: &mut Steps<M>,
 ) -> Result<(), AllocError>
-    requires { IsKeptCell dicts.now cell.now }
+    requires { IsCellRepr dicts.now cell.now }
     ensures { OnOk result (rows.new.items ≡ rows.old.items ++ rows_in dicts.now cell.now) }
 {
     for row in 0..cell.rows {
@@ -90,9 +90,9 @@ fn decoded<M: Ledger>(
     row: u64,
     decodes: &mut Steps<M>,
 ) -> Result<Row, AllocError>
-    requires kept { IsKeptCell dicts.now cell.now }
+    requires kept { IsCellRepr dicts.now cell.now }
     requires row { row < cell.now.rows }
-    ensures row { IfOk result (λ values. values ≡ decoded_row dicts.now cell.now.classes (row_kept cell.now.codes row)) }
+    ensures row { IfOk result (λ values. values ≡ decoded_row dicts.now cell.now.classes (row_of_codes cell.now.codes row)) }
     ensures decodes { decodes.new ≤ decodes.old + length dicts.now }
 {
     let mut values = Vec::with_capacity(alloc, dicts.len())?;

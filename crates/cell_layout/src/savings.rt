@@ -1,14 +1,14 @@
 // What the columns save.
 ghost use Rattle.std.specs.Prelude.{◌≡◌, ℕ, IfOk, List as Listed, map};
 ghost use Rattle.blink_lists.specs.Lists.{numbers_from};
-ghost use Rattle.blink_base.specs.Compared.{Row as Values};
-ghost use Rattle.blink_histogram.specs.Ranked.{ranked};
+ghost use Rattle.blink_base.specs.Values.{Row as Values};
+ghost use Rattle.blink_histogram.specs.Ranks.{ranked};
 ghost use Rattle.freq_partition.specs.Division.{saving_of};
 ghost use Rattle.cell_layout.specs.Image.{column_values};
-ghost use Rattle.cell_layout.specs.Laid.{counts_of};
-ghost use Rattle.cell_layout.specs.Ranking.{AreRanked};
+ghost use Rattle.cell_layout.specs.Layout.{counts_of};
+ghost use Rattle.cell_layout.specs.ColumnStats.{AreRanked};
 
-use crate::ranks::RankedColumn;
+use crate::column_stats::RankedColumn;
 use std::alloc::{AllocError, Global};
 
 // What the best division of each column saves.

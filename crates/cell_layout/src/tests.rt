@@ -1,7 +1,7 @@
 ghost use Rattle.std.specs.Prelude.{◌≡◌, ◌<◌, ◌≤◌, IfOk, IsTrue, None as Nothing};
 ghost use Rattle.std.specs.List.{list_all};
-ghost use Rattle.blink_base.specs.Fits.{fits};
-ghost use Rattle.cell_layout.specs.Valid.{is_schema, MayHold};
+ghost use Rattle.blink_base.specs.RowFits.{fits, is_schema};
+ghost use Rattle.cell_layout.specs.Valid.{MayHold};
 
 use super::*;
 use bank_pack::BankPlan;

@@ -1,7 +1,7 @@
 pub mod Candidate
+pub mod ColumnChoice
 pub mod Division
 pub mod Examples
-pub mod Places
-pub mod Saved
+pub mod PrefixSums
 pub mod Search
-pub mod Three
+pub mod TopThree

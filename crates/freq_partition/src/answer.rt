@@ -18,7 +18,7 @@ pub struct Cut {
 }
 
 /// The sizes and the cost of these classes.
-#[tactic(auto, using(crate::proofs::Padded::padded_take))]
+#[tactic(auto, using(crate::proofs::PaddingLemmas::padded_take))]
 pub(crate) fn cut_of(classes: &Classes) -> Cut
     ensures count { result.count ≡ length (division_in classes.now).sizes }
     ensures sizes { result.sizes ≡ padded 4 (division_in classes.now).sizes }

@@ -6,12 +6,10 @@ ghost use Rattle.freq_partition.specs.Division.{best_division, single_division, 
 
 use crate::answer::{Cut, cut_of};
 use crate::candidate::{CLASS_COST, Classes};
-use crate::places::{Ranked, rows_of};
+use crate::prefix_sums::{Ranked, rows_of};
 use crate::search::{search_behind, width_of, with_rest};
+use blink_lists::MOST_ROWS;
 use std::alloc::{AllocError, Global};
-
-/// The most rows that a column may have. Source: this project's own.
-pub const MOST_ROWS: u64 = 8_388_608;
 
 /// The best division of values with these counts into one to four classes; none for no counts.
 ///
@@ -19,7 +17,7 @@ pub const MOST_ROWS: u64 = 8_388_608;
 /// [`MOST_ROWS`]. The division is the candidate of least cost, of equal cost the one with fewer classes, and then the one
 /// with the lexicographically least widths. No list of one to four sizes costs less. Source: after Raman et al., ICDE
 /// 2008; the candidates and their cost are this project's own.
-#[tactic(auto, using(crate::proofs::Least::costs_least, crate::proofs::Sums::length_le_sum))]
+#[tactic(auto, using(crate::proofs::LeastCostLemmas::costs_least, crate::proofs::PrefixSumLemmas::length_le_sum))]
 pub fn cut(alloc: Global, counts: &[u64]) -> Result<Cut, AllocError>
     requires positive { All (λ count. 1 ≤ count) counts.now }
     requires ranked { IsTrue (never_rises counts.now) }

@@ -3,16 +3,16 @@
 
 mod answer;
 mod candidate;
+mod column_choice;
 mod division;
 pub mod examples;
-mod few;
-mod places;
-mod saving;
+mod prefix_sums;
 mod search;
+mod top_three;
 
 pub use answer::Cut;
-pub use division::{MOST_ROWS, cut, single};
-pub use saving::{Chosen, choose_columns};
+pub use column_choice::{Chosen, choose_columns};
+pub use division::{cut, single};
 
 #[cfg(test)]
 mod tests;

@@ -7,10 +7,8 @@ ghost use Rattle.freq_partition.specs.Division.{one_class, fronts};
 ghost use Rattle.freq_partition.specs.Search.{behind, best_among};
 
 use crate::candidate::Classes;
-use crate::places::Ranked;
-
-/// The greatest width of a class.
-const MOST_WIDTH: u8 = 23;
+use crate::prefix_sums::Ranked;
+use blink_lists::MOST_WIDTH;
 
 /// How many codes a width holds.
 fn full_size(width: u8) -> usize
@@ -54,7 +52,7 @@ fn with_next(ranked: &Ranked<'_>, front: &Classes, taken: usize, width: u8, size
 }
 
 /// The classes of `front`, and one of all other values behind them.
-#[tactic(auto, using(crate::proofs::Searched::with_all))]
+#[tactic(auto, using(crate::proofs::SearchLemmas::with_all))]
 pub(crate) fn with_rest(ranked: &Ranked<'_>, front: &Classes, taken: usize) -> Classes
     requires room { front.now.count < 4 }
     requires within { taken ≤ length ranked.now.counts.now }

@@ -1,3 +1,3 @@
 pub mod Examples
 pub mod Fields
-pub mod Shapes
+pub mod ShapeRepr

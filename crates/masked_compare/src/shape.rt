@@ -2,10 +2,8 @@
 ghost use Rattle.std.specs.Prelude.{◌≡◌, [], ◌∷◌, ◌++◌, ◌*◌, ◌≤◌, length, IsTrue, IfSome, IsSome, ◌↔◌};
 ghost use Rattle.masked_compare.specs.Fields.{is_shape, fields_bits, lane_holding, lane_bits, lane_count};
 
+use blink_lists::{MOST_LANE_BITS, MOST_WIDTH, WORD_BITS};
 use std::marker::Model;
-
-/// The most bits of the fields of one lane.
-const MOST_LANE_BITS: u32 = 32;
 
 /// How the fields of one row lie in a lane of a 64-bit word, seen as their widths: side by side, the first lowest, each
 /// with a guard bit above. Source: after Johnson et al., VLDB 2008; the widths are this project's own.
@@ -19,7 +17,7 @@ pub struct Shape {
 impl Model for Shape {
     ghost use Rattle.std.specs.Prelude.{List, ℕ};
     ghost use Rattle.std.specs.Coded.{coded_list, coded_ℕ};
-    ghost use Rattle.masked_compare.specs.Shapes.{widths_of, IsGood, fields_of, fields_back};
+    ghost use Rattle.masked_compare.specs.ShapeRepr.{widths_of, IsGood, fields_of, fields_back};
 
     ghost Value = { List ℕ };
 
@@ -78,7 +76,7 @@ impl Shape {
     pub fn lanes(self) -> usize
         ensures { result ≡ lane_count self }
     {
-        (64 / self.bits) as usize
+        (WORD_BITS / self.bits) as usize
     }
 }
 
@@ -93,7 +91,7 @@ fn bits_of(widths: &[u8]) -> Option<u32>
     }
     let mut bits = 0;
     for width in widths {
-        if *width == 0 || *width > 23 {
+        if *width == 0 || *width > MOST_WIDTH {
             return None;
         }
         bits += *width as u32 + 1;

@@ -1,1 +1,1 @@
-pub mod Separated
+pub mod SeparatorLemmas

@@ -6,18 +6,15 @@ use Rattle.blink_base.specs.declared.schema.Schema.{Schema}
 use Rattle.blink_base.specs.declared.limits.Limits.{Limits}
 use Rattle.blink_base.specs.declared.refusal.Refusal.{Refusal}
 use Rattle.blink_base.specs.declared.refusal.Refusal.TheVariants as refusal
-use Rattle.blink_base.specs.Compared.{Row}
+use Rattle.blink_base.specs.Values.{Row}
 use Rattle.blink_lists.specs.Lists.{are_distinct, first_of}
 use Rattle.star_sql.specs.declared.ast.ColumnDef.{ColumnDef}
 use Rattle.cell_layout.specs.Image.{TableImage, rows_of, column_values}
-use Rattle.cell_layout.specs.Laid.{laid, grown, empty_image}
+use Rattle.cell_layout.specs.Layout.{laid, grown, empty_image}
 use Rattle.cell_layout.specs.Refusals.{repeated_key}
-use Rattle.cell_layout.specs.Valid.{most_columns}
-use Rattle.star_engine.specs.Catalog.{Held, Tables, held_of, is_held, with_table, without_table, and_table}
-
--- how many tables there may be
-abbrev pub most_tables : ℕ
-most_tables = 64
+use Rattle.blink_lists.specs.declared.limits.TheConstants.{MOST_COLUMNS}
+use Rattle.star_engine.specs.State.{AcceptedTable, Tables, find_table, has_table, with_table, without_table, and_table}
+use Rattle.blink_base.specs.declared.limits.TheConstants.{MOST_TABLES}
 
 -- one refusal where something holds, and else none
 abbrev pub when : Bool → Refusal → List Refusal
@@ -29,34 +26,34 @@ unless None x = Ok x
 unless (Some why) x = Err why
 
 -- refused where the named table is there
-abbrev pub if_held : Tables → List ℕ → List Refusal
-if_held tables name = when (is_held tables name) (refusal.TableExists name)
+abbrev pub if_there : Tables → List ℕ → List Refusal
+if_there tables name = when (has_table tables name) (refusal.TableExists name)
 
 -- refused where there is no room for one more table
 abbrev pub if_full : Tables → List Refusal
-if_full tables = when (nat_le most_tables (length tables)) refusal.TooManyTables
+if_full tables = when (nat_le MOST_TABLES (length tables)) refusal.TooManyTables
 
 -- the same tables, where one of this name may be made
 abbrev pub roomed : Tables → List ℕ → Result Tables Refusal
-roomed tables name = unless (first_of (if_held tables name ++ if_full tables)) tables
+roomed tables name = unless (first_of (if_there tables name ++ if_full tables)) tables
 
 -- too many columns, a name twice, or PRIMARY KEY twice
 abbrev pub are_bad_columns : List ColumnDef → Bool
 are_bad_columns columns =
-    nat_lt most_columns (length columns)
+    nat_lt MOST_COLUMNS (length columns)
     || not (are_distinct bytes_eq (map (λ c. c.name) columns))
     || nat_lt 1 (count_by (λ c. c.key) columns)
 
 -- CREATE: the name, the columns, the number of tables
 abbrev pub create_refusals : Tables → List ℕ → List ColumnDef → List Refusal
-create_refusals tables name columns = if_held tables name ++ when (are_bad_columns columns) refusal.BadColumns ++ if_full tables
+create_refusals tables name columns = if_there tables name ++ when (are_bad_columns columns) refusal.BadColumns ++ if_full tables
 
 -- the schema that columns make
 abbrev pub schema_of : List ColumnDef → Schema
 schema_of columns = record { columns = map (λ c. record { name = c.name; kind = c.kind }) columns; key = position (λ c. c.key) columns }
 
 -- a table without rows
-abbrev pub new_table : List ℕ → Schema → Held
+abbrev pub new_table : List ℕ → Schema → AcceptedTable
 new_table name schema = record { name = name; rows = []; image = empty_image schema }
 
 -- CREATE: one more table behind the others, or the first refusal
@@ -64,13 +61,13 @@ abbrev pub created : Tables → List ℕ → List ColumnDef → Result Tables Re
 created tables name columns = unless (first_of (create_refusals tables name columns)) (and_table tables (new_table name (schema_of columns)))
 
 -- DROP of the table that a name has
-abbrev pub drop_held : Tables → List ℕ → Option Held → Result Tables Refusal
-drop_held tables name None = Err (refusal.UnknownTable name)
-drop_held tables name (Some held) = Ok (without_table tables name)
+abbrev pub drop_found : Tables → List ℕ → Option AcceptedTable → Result Tables Refusal
+drop_found tables name None = Err (refusal.UnknownTable name)
+drop_found tables name (Some held) = Ok (without_table tables name)
 
 -- DROP: the tables without that one
 abbrev pub dropped : Tables → List ℕ → Result Tables Refusal
-dropped tables name = drop_held tables name (held_of tables name)
+dropped tables name = drop_found tables name (find_table tables name)
 
 -- the refusal of a repeated key; rows are counted from 1
 abbrev pub duplicate_of : Option (ℕ × Value) → List Refusal
@@ -87,7 +84,7 @@ abbrev pub if_many : Limits → ℕ → List Refusal
 if_many limits rows = when (nat_lt limits.rows rows) refusal.TooManyRows
 
 -- a batch behind a table's rows: the number of rows, then the keys
-abbrev pub add_refusals : Limits → Held → List Row → List Refusal
+abbrev pub add_refusals : Limits → AcceptedTable → List Row → List Refusal
 add_refusals limits held rows = if_many limits (length held.rows + length rows) ++ if_repeated held.image.schema.key held.rows rows
 
 -- the image with a batch: all laid out anew, or the batch added to the standing layout
@@ -96,28 +93,28 @@ image_with true image rows = laid image.schema (rows_of image ++ rows)
 image_with false image rows = grown image rows
 
 -- the table with a batch behind its rows
-abbrev pub added_to : Bool → Held → List Row → Held
+abbrev pub added_to : Bool → AcceptedTable → List Row → AcceptedTable
 added_to anew held rows = record { name = held.name; rows = held.rows ++ rows; image = image_with anew held.image rows }
 
 -- the tables with a batch in one of them, and the number of its rows
-abbrev pub add_rows : Limits → Bool → Tables → Held → Result (List Row) Refusal → Result (Tables × ℕ) Refusal
+abbrev pub add_rows : Limits → Bool → Tables → AcceptedTable → Result (List Row) Refusal → Result (Tables × ℕ) Refusal
 add_rows limits anew tables held (Err why) = Err why
 add_rows limits anew tables held (Ok rows) = unless (first_of (add_refusals limits held rows)) (with_table tables (added_to anew held rows), length rows)
 
 -- a batch for the table that a name has
-abbrev pub add_held : Limits → Bool → Tables → List ℕ → (Schema → Result (List Row) Refusal) → Option Held → Result (Tables × ℕ) Refusal
-add_held limits anew tables name batch None = Err (refusal.UnknownTable name)
-add_held limits anew tables name batch (Some held) = add_rows limits anew tables held (batch held.image.schema)
+abbrev pub add_found : Limits → Bool → Tables → List ℕ → (Schema → Result (List Row) Refusal) → Option AcceptedTable → Result (Tables × ℕ) Refusal
+add_found limits anew tables name batch None = Err (refusal.UnknownTable name)
+add_found limits anew tables name batch (Some held) = add_rows limits anew tables held (batch held.image.schema)
 
 -- LOAD adds rows and lays all out anew; APPEND and INSERT add them to the standing layout: the table first, then the batch, then what is refused of it
 abbrev pub added : Limits → Bool → Tables → List ℕ → (Schema → Result (List Row) Refusal) → Result (Tables × ℕ) Refusal
-added limits anew tables name batch = add_held limits anew tables name batch (held_of tables name)
+added limits anew tables name batch = add_found limits anew tables name batch (find_table tables name)
 
 -- REORGANIZE of the table that a name has
-abbrev pub reorganize_held : Tables → List ℕ → Option Held → Result Tables Refusal
-reorganize_held tables name None = Err (refusal.UnknownTable name)
-reorganize_held tables name (Some held) = Ok (with_table tables (record { name = held.name; rows = held.rows; image = laid held.image.schema (rows_of held.image) }))
+abbrev pub reorganize_found : Tables → List ℕ → Option AcceptedTable → Result Tables Refusal
+reorganize_found tables name None = Err (refusal.UnknownTable name)
+reorganize_found tables name (Some held) = Ok (with_table tables (record { name = held.name; rows = held.rows; image = laid held.image.schema (rows_of held.image) }))
 
 -- REORGANIZE: the same rows, those of the image laid out anew
 abbrev pub reorganized : Tables → List ℕ → Result Tables Refusal
-reorganized tables name = reorganize_held tables name (held_of tables name)
+reorganized tables name = reorganize_found tables name (find_table tables name)

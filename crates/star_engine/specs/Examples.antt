@@ -7,7 +7,7 @@ use Rattle.blink_base.specs.declared.value.Kind.TheVariants as kind
 use Rattle.star_sql.specs.declared.ast.ColumnDef.{ColumnDef}
 use Rattle.star_sql.specs.declared.ast.Literal.TheVariants as literal
 use Rattle.star_sql.specs.declared.ast.Statement.TheVariants as statement
-use Rattle.star_engine.specs.Catalog.{State}
+use Rattle.star_engine.specs.State.{State}
 use Rattle.star_engine.specs.Changes.{new_table}
 use Rattle.star_engine.specs.Step.{step, refuse}
 

@@ -4,17 +4,18 @@ use Rattle.blink_base.specs.declared.schema.Schema.{Schema}
 use Rattle.blink_base.specs.declared.limits.Limits.{Limits}
 use Rattle.blink_base.specs.declared.refusal.Refusal.{Refusal}
 use Rattle.blink_base.specs.declared.refusal.Refusal.TheVariants as refusal
-use Rattle.blink_base.specs.Compared.{Row}
+use Rattle.blink_base.specs.Values.{Row}
 use Rattle.star_sql.specs.declared.ast.Statement.{Statement}
 use Rattle.star_sql.specs.declared.ast.Statement.TheVariants as statement
-use Rattle.star_sql.specs.Saying.{Said}
+use Rattle.star_sql.specs.PieceStatement.{Said}
 use Rattle.report_text.specs.declared.lines.LayoutLines.{LayoutLines}
 use Rattle.report_text.specs.Texts.{Bytes, refusal_bytes, created_bytes, dropped_bytes, reorganized_bytes, added_bytes, layout_bytes}
-use Rattle.star_engine.specs.Batches.{loaded}
-use Rattle.star_engine.specs.Catalog.{Tables, State, is_held}
+use Rattle.star_engine.specs.LoadedRows.{loaded}
+use Rattle.star_engine.specs.State.{Tables, State, has_table}
 use Rattle.star_engine.specs.Changes.{created, dropped, added, reorganized}
-use Rattle.star_engine.specs.Layouts.{described}
-use Rattle.star_engine.specs.Written.{written}
+use Rattle.star_engine.specs.TableLayout.{described}
+use Rattle.star_engine.specs.InsertedRows.{written}
+use Rattle.blink_base.specs.declared.limits.TheConstants.{LONGEST_CSV}
 
 -- what a statement leaves, what it prints, and whether it was refused
 pub record Outcome : Type 0 where
@@ -49,10 +50,6 @@ abbrev pub description : State → Result LayoutLines Refusal → Outcome
 description state (Ok lines) = done state (layout_bytes lines)
 description state (Err why) = refuse state why
 
--- how many bytes a CSV file may have
-abbrev pub longest_csv : ℕ
-longest_csv = 134217728
-
 -- a file of at most so many bytes
 abbrev pub short_enough : Bool → Bytes → Result Bytes Refusal
 short_enough true bytes = Ok bytes
@@ -70,7 +67,7 @@ batch_of (Err why) schema = Err why
 
 -- LOAD and APPEND: the table first, then the file, then its rows, then what is refused of them
 abbrev pub add_file : Limits → Bool → State → List ℕ → List ℕ → Outcome
-add_file limits anew state name file = addition state (added limits anew state.tables name (batch_of (fetched longest_csv (state.files file))))
+add_file limits anew state name file = addition state (added limits anew state.tables name (batch_of (fetched LONGEST_CSV (state.files file))))
 
 -- the outcome of a statement; queries and table files are not built
 abbrev pub statement_step : Limits → State → Statement → Outcome
@@ -95,8 +92,8 @@ step limits state (Err why) = refuse state why
 abbrev pub asks_store : Tables → Statement → Bool
 asks_store tables (statement.Create name columns) = false
 asks_store tables (statement.Drop name) = false
-asks_store tables (statement.Load name file) = is_held tables name
-asks_store tables (statement.Append name file) = is_held tables name
+asks_store tables (statement.Load name file) = has_table tables name
+asks_store tables (statement.Append name file) = has_table tables name
 asks_store tables (statement.Insert name rows) = false
 asks_store tables (statement.Reorganize name) = false
 asks_store tables (statement.Select s) = false

@@ -1,9 +1,9 @@
 // The rows that a CSV text or an INSERT adds to a table.
 ghost use Rattle.std.specs.Prelude.{◌≤◌, IsTrue, IfOk, length};
 ghost use Rattle.std.specs.List.{list_all};
-ghost use Rattle.blink_base.specs.Fits.{fits};
-ghost use Rattle.star_engine.specs.Answers.{IsAnswer};
-ghost use Rattle.star_engine.specs.Batches.{loaded, batch_in, IsGood};
+ghost use Rattle.blink_base.specs.RowFits.{fits};
+ghost use Rattle.star_engine.specs.Causes.{IsAnswer};
+ghost use Rattle.star_engine.specs.LoadedRows.{loaded, batch_in, IsGood};
 
 use crate::EngineError;
 use crate::written::written_rows;

@@ -6,11 +6,9 @@ ghost use Rattle.blink_lists.specs.Lists.{are_distinct};
 ghost use Rattle.star_engine.specs.Changes.{are_bad_columns, schema_of};
 
 use blink_base::{Column, List, Schema};
+use blink_lists::MOST_COLUMNS;
 use star_sql::ColumnDef;
 use std::alloc::{AllocError, Global};
-
-/// How many columns a table may have.
-const MOST_COLUMNS: usize = 32;
 
 // Whether a column has this name.
 fn is_named(columns: &[ColumnDef], name: &str) -> bool

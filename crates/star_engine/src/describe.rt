@@ -2,24 +2,22 @@
 ghost use Rattle.std.specs.Prelude.{◌≡◌, IfOk, map, length};
 ghost use Rattle.std.specs.List.{zip};
 ghost use Rattle.bank_pack.specs.Banks.{tuplet_bits, pages_for};
-ghost use Rattle.cell_layout.specs.Kept.{most_image_rows};
-ghost use Rattle.star_engine.specs.Answers.{IsAnswer};
-ghost use Rattle.star_engine.specs.Catalog.{Tables};
-ghost use Rattle.star_engine.specs.Layouts.{class_lines, column_line, column_lines, is_key_column, layout_of, described};
+ghost use Rattle.cell_layout.specs.CellRepr.{most_image_rows};
+ghost use Rattle.star_engine.specs.Causes.{IsAnswer};
+ghost use Rattle.star_engine.specs.State.{Tables};
+ghost use Rattle.star_engine.specs.TableLayout.{class_lines, column_line, column_lines, is_key_column, layout_of, described};
 ghost use Rattle.star_engine.specs.Lined.{line_kept};
-ghost use Rattle.star_engine.specs.Shown.{IsEngineOf};
+ghost use Rattle.star_engine.specs.EngineRepr.{IsEngineOf};
 
 use crate::{Engine, EngineError};
 use bank_pack::BankPlan;
 use blink_base::{Column, List, Refusal, Schema, Word};
+use blink_lists::PAGE_ROWS;
 use cell_layout::{Cell, Image};
 use order_codes::Dict;
 use report_text::{CellLine, ClassLine, ColumnLine, LayoutLines};
 use std::alloc::{AllocError, Global};
 use word_pool::Ledger;
-
-/// How many rows a page has.
-const PAGE_ROWS: u64 = 1024;
 
 // The width and the size of each class.
 fn class_lines<M: Ledger>(alloc: Global, dict: &Dict<M>) -> Result<List<ClassLine>, AllocError>

@@ -3,30 +3,27 @@ ghost use Rattle.std.specs.Prelude.{◌≡◌, ◌≢◌, ◌≤◌, ◌<◌, �
 ghost use Rattle.std.specs.List.{list_all};
 ghost use Rattle.std.specs.Option.{option_copied, option_map};
 ghost use Rattle.std.specs.Str.{bytes_eq};
-ghost use Rattle.blink_base.specs.Fits.{fits};
+ghost use Rattle.blink_base.specs.RowFits.{fits};
 ghost use Rattle.cell_layout.specs.Valid.{is_valid};
 ghost use Rattle.star_sql.specs.WellFormed.{is_well_formed};
 ghost use Rattle.star_sql.specs.declared.ast.Statement.TheVariants as statement;
-ghost use Rattle.star_engine.specs.Answers.{IsAnswer, IsCause};
-ghost use Rattle.star_engine.specs.Batches.{loaded, batch_in, IsGood};
-ghost use Rattle.star_engine.specs.Catalog.{Tables, held_of};
+ghost use Rattle.star_engine.specs.Causes.{IsAnswer, IsCause};
+ghost use Rattle.star_engine.specs.LoadedRows.{loaded, batch_in, IsGood};
+ghost use Rattle.star_engine.specs.State.{Tables, find_table};
 ghost use Rattle.star_engine.specs.Changes.{roomed, created, dropped, added, reorganized};
-ghost use Rattle.star_engine.specs.Shown.{shown, IsEngineOf, HasTables, IsChange, IsAddition, IsKeyless};
-ghost use Rattle.star_engine.specs.Sound.{AreLimits};
-ghost use Rattle.star_engine.specs.Written.{written};
+ghost use Rattle.star_engine.specs.EngineRepr.{table_of, IsEngineOf, HasTables, IsChange, IsAddition, IsKeyless};
+ghost use Rattle.star_engine.specs.Soundness.{AreLimits};
+ghost use Rattle.star_engine.specs.InsertedRows.{written};
 
 use crate::EngineError;
 use crate::batch::{Source, rows_from};
 use crate::columns::{are_bad_columns, schema_of};
 use crate::table::{Table, add_at, place_of, remove_at};
-use blink_base::{Limits, List, Refusal, Row, Word};
+use blink_base::{Limits, List, MOST_TABLES, Refusal, Row, Word};
 use cell_layout::Image;
 use star_sql::{ColumnDef, Literal};
 use std::alloc::Global;
 use word_pool::{Ledger, Steps};
-
-/// How many tables there may be.
-const MOST_TABLES: usize = 64;
 
 /// The tables by name, in the order of their making, and how large they may grow. Source: ISO/IEC 9075 (tables); the limits
 /// are this project's own.
@@ -101,7 +98,7 @@ impl<M: Ledger> Engine<M> {
     /// The first table of this name; None without one. It takes no memory. Source: this project's own.
     pub fn find(&self, name: &str) -> Option<&Table<M>>
         ensures first { option_copied result ≡ find (λ table. bytes_eq name.now table.name) self.now.tables }
-        ensures held { (tables : Tables) → IsEngineOf tables self.now → option_copied result ≡ option_map shown (held_of tables name.now) }
+        ensures held { (tables : Tables) → IsEngineOf tables self.now → option_copied result ≡ option_map table_of (find_table tables name.now) }
     {
         let at = place_of(self.tables.as_slice(), name)?;
         self.tables.get(at)

@@ -1,7 +1,7 @@
 //! Worked steps, as facts that compute.
 
 ghost use Rattle.star_engine.specs.Examples.{StatementsStepped, TablesDescribed, TextsRefused};
-ghost use Rattle.star_engine.specs.Worked.{CreatesTold, DropsTold, AddsTold, RowsWritten};
+ghost use Rattle.star_engine.specs.ChangeExamples.{CreatesTold, DropsTold, AddsTold, RowsWritten};
 
 /// A statement that isn't built, or that is refused, keeps the tables and the files; a dropped table is gone.
 #[tactic(auto, using(crate::specs::Examples::statements_stepped_lem))]
@@ -22,25 +22,25 @@ pub fn texts_refused()
 {}
 
 /// Why a table isn't made, in order, and one that is made.
-#[tactic(auto, using(crate::specs::Worked::creates_told_lem))]
+#[tactic(auto, using(crate::specs::ChangeExamples::creates_told_lem))]
 pub fn creates_told()
     ensures { CreatesTold }
 {}
 
 /// A table goes, where it is there.
-#[tactic(auto, using(crate::specs::Worked::drops_told_lem))]
+#[tactic(auto, using(crate::specs::ChangeExamples::drops_told_lem))]
 pub fn drops_told()
     ensures { DropsTold }
 {}
 
 /// The number of rows is told before a key that stands twice.
-#[tactic(auto, using(crate::specs::Worked::adds_told_lem))]
+#[tactic(auto, using(crate::specs::ChangeExamples::adds_told_lem))]
 pub fn adds_told()
     ensures { AddsTold }
 {}
 
 /// Written rows, and the first row at fault.
-#[tactic(auto, using(crate::specs::Worked::rows_written_lem))]
+#[tactic(auto, using(crate::specs::ChangeExamples::rows_written_lem))]
 pub fn rows_written()
     ensures { RowsWritten }
 {}

@@ -2,10 +2,11 @@
 ghost use Rattle.std.specs.Prelude.{◌≡◌, ◌<◌, ◌≤◌, ◌++◌, IsTrue, OnOk, OnErr, None, false, length, position, slice_index_or as get_or, slice_set};
 ghost use Rattle.std.specs.List.{list_all, remove};
 ghost use Rattle.std.specs.Str.{bytes_eq};
-ghost use Rattle.blink_base.specs.Fits.{fits};
+ghost use Rattle.blink_base.specs.RowFits.{fits};
 ghost use Rattle.cell_layout.specs.Refusals.{refusal_of, IsRefusal};
-ghost use Rattle.cell_layout.specs.Valid.{most_rows, is_valid};
-ghost use Rattle.star_engine.specs.Adding.{IsAdded, IsAddedAt};
+ghost use Rattle.cell_layout.specs.Valid.{is_valid};
+ghost use Rattle.blink_lists.specs.declared.limits.TheConstants.{MOST_ROWS};
+ghost use Rattle.star_engine.specs.AddRows.{IsAdded, IsAddedAt};
 
 use blink_base::{List, Row, Word};
 use cell_layout::{Image, LayoutError};
@@ -38,7 +39,7 @@ fn add<M: Ledger>(
     decodes: &mut Steps<M>,
 ) -> Result<(), LayoutError>
     requires valid { IsTrue (is_valid table.old.image) }
-    requires limit { limit ≤ most_rows }
+    requires limit { limit ≤ MOST_ROWS }
     requires fit { IsTrue (list_all (fits table.old.image.schema) batch.now) }
     ensures added { OnOk result (IsAdded anew table.old table.new batch.now) }
     ensures refused { IsRefusal result (refusal_of limit table.old.image batch.now) }
@@ -65,7 +66,7 @@ pub(crate) fn add_at<M: Ledger>(
 ) -> Result<(), LayoutError>
     requires within { at < length tables.old }
     requires valid { (d : Table M) → IsTrue (is_valid (get_or tables.old at d).image) }
-    requires limit { limit ≤ most_rows }
+    requires limit { limit ≤ MOST_ROWS }
     requires fit { (d : Table M) → IsTrue (list_all (fits (get_or tables.old at d).image.schema) batch.now) }
     ensures added { OnOk result ((d : Table M) → IsAddedAt anew tables.old tables.new at batch.now d) }
     ensures refused { (d : Table M) → IsRefusal result (refusal_of limit (get_or tables.old at d).image batch.now) }

@@ -1,7 +1,7 @@
 ghost use Rattle.std.specs.Prelude.{◌≡◌, ◌≤◌, ◌<◌, IsTrue};
-ghost use Rattle.cell_layout.specs.Valid.{most_rows};
+ghost use Rattle.blink_lists.specs.declared.limits.TheConstants.{MOST_ROWS};
 ghost use Rattle.star_sql.specs.WellFormed.{is_well_formed};
-ghost use Rattle.star_engine.specs.Shown.{HasTables};
+ghost use Rattle.star_engine.specs.EngineRepr.{HasTables};
 
 use super::*;
 use blink_base::{Limits, List, Word};
@@ -187,7 +187,7 @@ fn answered<N: ledger::Ledger>(
     requires name { blank.name ≡ N.name }
     requires parts { blank.parts ≡ N.parts }
     requires some { 0 < blank.parts }
-    requires few { rows ≤ most_rows }
+    requires few { rows ≤ MOST_ROWS }
 {
     let mut steps: Steps<Tally<N>> = Steps::new(Tally::new(blank));
     let mut engine: Engine<Tally<N>> = Engine::new(alloc, Limits { rows, blocks: 1 });

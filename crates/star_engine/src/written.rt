@@ -1,17 +1,17 @@
 // The rows that an INSERT writes.
 ghost use Rattle.std.specs.Prelude.{◌≡◌, ◌≢◌, ◌≤◌, ◌<◌, ◌+◌, ◌^◌, Err, IsTrue, IfOk, IfSome, length, pos, nat_lt};
 ghost use Rattle.std.specs.List.{list_all, zip};
-ghost use Rattle.blink_base.specs.Compared.{Row as Values};
+ghost use Rattle.blink_base.specs.Values.{Row as Values};
 ghost use Rattle.blink_base.specs.Dates.{date_of};
-ghost use Rattle.blink_base.specs.Fits.{fits, is_entry};
+ghost use Rattle.blink_base.specs.RowFits.{fits, is_entry};
 ghost use Rattle.star_sql.specs.Literals.{literal_value, signed, text_if_short};
 ghost use Rattle.star_sql.specs.WellFormed.{is_literal, is_written_number, some_and_all};
-ghost use Rattle.star_engine.specs.Answers.{IsAnswer};
-ghost use Rattle.star_engine.specs.Batches.{are_written};
-ghost use Rattle.star_engine.specs.Written.{written_values, written_row, written_from};
+ghost use Rattle.star_engine.specs.Causes.{IsAnswer};
+ghost use Rattle.star_engine.specs.LoadedRows.{are_written};
+ghost use Rattle.star_engine.specs.InsertedRows.{written_values, written_row, written_from};
 
 use crate::EngineError;
-use blink_base::{Column, Kind, List, Refusal, Row, Schema, Value, Word};
+use blink_base::{Column, Kind, LONGEST_TEXT, List, Refusal, Row, Schema, Value, Word};
 use star_sql::Literal;
 use std::alloc::{AllocError, Global};
 
@@ -29,7 +29,7 @@ fn text_value(alloc: Global, word: &Word) -> Result<Option<Value>, AllocError>
     ensures value { IfOk result (λ value. value ≡ text_if_short word.now) }
     ensures entry { IfOk result (λ value. IfSome value (λ v. IsTrue (is_entry Kind.Text v))) }
 {
-    if word.as_str().len() > 255 {
+    if word.as_str().len() > LONGEST_TEXT {
         return Ok(None);
     }
     Ok(Some(Value::Text(word.copy(alloc)?)))

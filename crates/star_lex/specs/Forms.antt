@@ -5,8 +5,9 @@ use Rattle.std.specs.Option.{option_or}
 use Rattle.std.specs.Str.{str_to_ascii_lowercase}
 use Rattle.blink_base.specs.Texts.{is_text}
 use Rattle.std.specs.Str.Parse.{digits_value}
-use Rattle.blink_base.specs.Numbers.{is_digits, significant, most_digits}
-use Rattle.blink_base.specs.Words.{begins_name, is_name_byte}
+use Rattle.blink_base.specs.Numbers.{is_digits, significant}
+use Rattle.blink_base.specs.declared.limits.TheConstants.{MOST_DIGITS}
+use Rattle.blink_base.specs.Identifiers.{begins_name, is_name_byte}
 use Rattle.star_lex.specs.declared.token.Mark.{Mark}
 use Rattle.star_lex.specs.declared.token.Mark.TheVariants as mark
 use Rattle.star_lex.specs.declared.token.TokenKind.{TokenKind}
@@ -100,7 +101,7 @@ unpaired (b ∷ c ∷ rest) = b ∷ (elim (b == quote) [ true ↦ unpaired rest 
 abbrev pub kept_of : Form → List ℕ → ℕ → Result (Option TokenKind) LexFault
 kept_of blank bytes at = Ok None
 kept_of a_name bytes at = Ok (Some (token.Name (str_to_ascii_lowercase bytes)))
-kept_of a_number bytes at = if nat_le (length (significant bytes)) most_digits then Ok (Some (token.Number (pos (digits_value 10 bytes)))) else Err (fault.LongNumber at)
+kept_of a_number bytes at = if nat_le (length (significant bytes)) MOST_DIGITS then Ok (Some (token.Number (pos (digits_value 10 bytes)))) else Err (fault.LongNumber at)
 kept_of a_text bytes at = let w = unpaired (inside bytes) in if is_text w then Ok (Some (token.Text w)) else Err (fault.BadByte at)
 kept_of (a_mark m) bytes at = Ok (Some (token.Symbol m))
 

@@ -3,7 +3,7 @@ use Rattle.std.specs.Prelude.{◌≡◌, ℕ, zero, suc, ◌+◌, ◌<◌, ◌�
 use Rattle.std.specs.List.{position_or_len, prefix_len}
 use Rattle.std.specs.Char.{is_ascii_digit}
 use Rattle.std.specs.Option.{option_map_or}
-use Rattle.blink_base.specs.Words.{begins_name, is_name_byte}
+use Rattle.blink_base.specs.Identifiers.{begins_name, is_name_byte}
 use Rattle.star_lex.specs.declared.token.Mark.{Mark}
 use Rattle.star_lex.specs.declared.token.TokenKind.{TokenKind}
 use Rattle.star_lex.specs.declared.token.TokenKind.TheVariants as token

@@ -1,7 +1,7 @@
 // The pieces of a script.
 ghost use Rattle.std.specs.Prelude.{◌≡◌, ◌≤◌, ◌<◌, ◌==◌, ◌+◌, IfOk, length, drop, take};
 ghost use Rattle.std.specs.List.{position_or_len};
-ghost use Rattle.blink_base.specs.Words.{longest_script};
+ghost use Rattle.blink_base.specs.declared.limits.TheConstants.{LONGEST_INPUT};
 ghost use Rattle.star_lex.specs.Pieces.{pieces_of, part_length, quote, line_feed};
 
 use crate::Place;
@@ -47,7 +47,7 @@ pub(crate) fn comment_length(bytes: &[u8]) -> usize
 
 // The length of the text, the comment or the other byte at the front.
 fn part_length(script: &[u8]) -> usize
-    requires { length script.now ≤ longest_script }
+    requires { length script.now ≤ LONGEST_INPUT }
     ensures value { result ≡ part_length script.now }
     ensures within { result ≤ length script.now }
 {
@@ -65,7 +65,7 @@ fn part_length(script: &[u8]) -> usize
 /// the next line feed or the end. There is one piece more than there are such semicolons, and no piece holds one.
 /// A script has at most 67,108,864 bytes. Source: this project's own.
 pub fn pieces(alloc: Global, text: &[u8]) -> Result<List<Place>, AllocError>
-    requires { length text.now ≤ longest_script }
+    requires { length text.now ≤ LONGEST_INPUT }
     ensures { IfOk result (λ places. places ≡ pieces_of text.now) }
 {
     let mut places = List::new(alloc);

@@ -2,7 +2,7 @@
 ghost use Rattle.std.specs.Prelude.{◌≡◌, ◌≢◌, ◌≤◌, ◌==◌, not, Some, None, Ok, Err, IfOk, IsTrue, if◌then◌else◌, length};
 ghost use Rattle.std.specs.List.{list_all};
 ghost use Rattle.blink_base.specs.Texts.{is_text};
-ghost use Rattle.blink_base.specs.Words.{is_name_byte};
+ghost use Rattle.blink_base.specs.Identifiers.{is_name_byte};
 ghost use Rattle.std.specs.Str.{str_to_ascii_lowercase};
 ghost use Rattle.star_lex.specs.declared.token.TokenKind.TheVariants.{Name};
 ghost use Rattle.star_lex.specs.declared.token.LexFault.TheVariants.{Memory};

@@ -2,13 +2,13 @@
 ghost use Rattle.star_lex.specs.Lex.{LexedIsLongest, LexesOneWay};
 
 /// The tokens that are computed are the longest forms.
-#[tactic(auto, using(crate::proofs::Lexings::lexed_is_longest))]
+#[tactic(auto, using(crate::proofs::LexLemmas::lexed_is_longest))]
 pub fn tokens_are_longest()
     ensures { LexedIsLongest }
 {}
 
 /// A piece lexes in one way.
-#[tactic(auto, using(crate::proofs::Lexings::lexes_one_way))]
+#[tactic(auto, using(crate::proofs::LexLemmas::lexes_one_way))]
 pub fn one_way_to_lex()
     ensures { LexesOneWay }
 {}

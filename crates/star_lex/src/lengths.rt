@@ -2,7 +2,8 @@
 ghost use Rattle.std.specs.Prelude.{◌≡◌, ◌≤◌, ◌<◌, ◌==◌, [], ◌∷◌, IfSome, length};
 ghost use Rattle.std.specs.List.{prefix_len};
 ghost use Rattle.std.specs.Char.{is_ascii_digit};
-ghost use Rattle.blink_base.specs.Words.{begins_name, is_name_byte, longest_script};
+ghost use Rattle.blink_base.specs.Identifiers.{begins_name, is_name_byte};
+ghost use Rattle.blink_base.specs.declared.limits.TheConstants.{LONGEST_INPUT};
 ghost use Rattle.star_lex.specs.Forms.{mark_of_bytes};
 ghost use Rattle.star_lex.specs.Lex.{closed_length, other_length, front_length};
 
@@ -109,7 +110,7 @@ pub(crate) fn mark_of_bytes(bytes: &[u8]) -> Option<Mark>
 
 // The length of a comment or of a mark of two bytes at the front, and else one byte.
 fn other_length(left: &[u8]) -> usize
-    requires { length left.now ≤ longest_script }
+    requires { length left.now ≤ LONGEST_INPUT }
     ensures value { result ≡ other_length left.now }
     ensures within { result ≤ length left.now }
 {
@@ -129,7 +130,7 @@ fn other_length(left: &[u8]) -> usize
 
 // The length of what begins at the front, where something does.
 pub(crate) fn front_length(left: &[u8]) -> usize
-    requires { length left.now ≤ longest_script }
+    requires { length left.now ≤ LONGEST_INPUT }
     ensures value { result ≡ front_length left.now }
     ensures within { result ≤ length left.now }
 {

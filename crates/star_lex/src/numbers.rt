@@ -2,7 +2,7 @@
 ghost use Rattle.std.specs.Prelude.{◌≡◌, ◌<◌, IsTrue, length, option_map};
 ghost use Rattle.std.specs.List.{list_all};
 ghost use Rattle.std.specs.Char.{is_ascii_digit};
-ghost use Rattle.blink_base.specs.Read.{whole_number};
+ghost use Rattle.blink_base.specs.ReadValue.{whole_number};
 ghost use Rattle.star_lex.specs.Forms.{kept_of, a_number};
 ghost use Rattle.star_lex.specs.declared.token.TokenKind.TheVariants.{Number};
 

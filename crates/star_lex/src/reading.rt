@@ -1,6 +1,6 @@
 // The tokens of a piece.
 ghost use Rattle.std.specs.Prelude.{◌≡◌, ◌≢◌, ◌≤◌, ◌<◌, Err, length};
-ghost use Rattle.blink_base.specs.Words.{longest_script};
+ghost use Rattle.blink_base.specs.declared.limits.TheConstants.{LONGEST_INPUT};
 ghost use Rattle.star_lex.specs.declared.token.LexFault.TheVariants.{Memory};
 ghost use Rattle.star_lex.specs.Lex.{Lexes, lexed, front_length, kept_of_front};
 
@@ -45,7 +45,7 @@ fn kept(alloc: Global, left: &[u8], size: usize, at: u32) -> Result<Option<Token
 /// begins no token, or a text that is no UTF-8. [`LexFault::Memory`] comes for want of memory alone.
 /// Source: ISO/IEC 9075 (lexical elements), in this project's own profile.
 pub fn tokens(alloc: Global, text: &[u8]) -> Result<List<Token>, LexFault>
-    requires { length text.now ≤ longest_script }
+    requires { length text.now ≤ LONGEST_INPUT }
     ensures lexes { result ≢ Err Memory → Lexes text.now 0 result }
     ensures computed { result ≢ Err Memory → result ≡ lexed text.now }
 {

@@ -16,7 +16,7 @@ use Rattle.star_sql.specs.declared.ast.Expr.TheVariants as expr
 use Rattle.star_sql.specs.declared.ast.Way.TheVariants.{Plain, Desc}
 use Rattle.star_sql.specs.declared.ast.Primary.{Test}
 use Rattle.star_sql.specs.declared.ast.TestWords.TheVariants.{Compare, Between, Among, Like}
-use Rattle.star_sql.specs.Made.{bare, dotted, item, any_of, all_of, group_of}
+use Rattle.star_sql.specs.StatementParts.{bare, dotted, item, any_of, all_of, group_of}
 use Rattle.star_meaning.specs.Names.{Scope, places, place_of}
 use Rattle.star_meaning.specs.NameRefusals.{name_refusal}
 use Rattle.star_meaning.specs.Truth.{is_true}

@@ -1,13 +1,13 @@
 -- A worked star query, as a fact that computes. Source: ISO/IEC 9075 for the answer; the orders are after the star schema benchmark (O'Neil et al., 2009).
 use Rattle.std.specs.Prelude.{◌≡◌, List, [], ◌∷◌, codes, Some, None, refl}
 use Rattle.blink_base.specs.declared.op.Op.TheVariants as op
-use Rattle.blink_base.specs.Compared.{Row}
+use Rattle.blink_base.specs.Values.{Row}
 use Rattle.star_sql.specs.declared.ast.What.TheVariants as what
 use Rattle.star_sql.specs.declared.ast.Expr.TheVariants.{Times}
 use Rattle.star_sql.specs.declared.ast.Primary.{Test}
 use Rattle.star_sql.specs.declared.ast.TestWords.TheVariants.{Compare, Columns, Between}
 use Rattle.star_sql.specs.declared.ast.Select.{Select}
-use Rattle.star_sql.specs.Made.{bare, number, all_of}
+use Rattle.star_sql.specs.StatementParts.{bare, number, all_of}
 use Rattle.star_meaning.specs.Names.{Scope}
 use Rattle.star_meaning.specs.Answer.{answer, lines}
 use Rattle.star_meaning.specs.Queries.{int_table, int_rows, int_lines, called, query_where}

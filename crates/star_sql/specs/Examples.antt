@@ -16,10 +16,10 @@ use Rattle.star_sql.specs.declared.ast.Expr.TheVariants.{Times}
 use Rattle.star_sql.specs.declared.ast.Way.TheVariants.{Plain, Desc}
 use Rattle.star_sql.specs.declared.ast.Primary.{Test}
 use Rattle.star_sql.specs.declared.ast.TestWords.TheVariants.{Columns, Between, Among, Like}
-use Rattle.star_sql.specs.Made.{bare, dotted, item, number, any_of, all_of, group_of}
+use Rattle.star_sql.specs.StatementParts.{bare, dotted, item, number, any_of, all_of, group_of}
 use Rattle.star_sql.specs.Spelling.{Spelled, spell}
 use Rattle.star_sql.specs.WellFormed.{is_well_formed}
-use Rattle.star_sql.specs.Reading.{kinds_of, is_deep}
+use Rattle.star_sql.specs.ParseResult.{kinds_of, is_deep}
 
 -- CREATE TABLE date (date DATE, n INT PRIMARY KEY)
 abbrev pub CreateSpelled : Type 0

@@ -1,17 +1,17 @@
 // Columns as they are named.
-ghost use Rattle.star_sql.specs.Reading.{kinds_of};
-ghost use Rattle.star_sql.specs.Fronts.{Gives};
-ghost use Rattle.star_sql.specs.PredicateFronts.{column_behind, column_at};
+ghost use Rattle.star_sql.specs.ParseResult.{kinds_of};
+ghost use Rattle.star_sql.specs.Parsers.{Gives};
+ghost use Rattle.star_sql.specs.PredicateParsers.{column_behind, column_at};
 
-use crate::fronts::{dot, name};
 use crate::lists::Front;
+use crate::tokens_at::{dot, name};
 use crate::{ColumnName, ParseFault};
 use blink_base::Word;
 use star_lex::Token;
 use std::alloc::Global;
 
 // A column behind its first name.
-#[tactic(auto, unfolding(crate::specs::PredicateFronts::column_behind))]
+#[tactic(auto, unfolding(crate::specs::PredicateParsers::column_behind))]
 fn column_behind(
     alloc: Global,
     first: Word,
@@ -40,7 +40,7 @@ fn column_behind(
     }
 }
 
-#[tactic(auto, unfolding(crate::specs::PredicateFronts::column_at))]
+#[tactic(auto, unfolding(crate::specs::PredicateParsers::column_at))]
 pub(crate) fn column(alloc: Global, tokens: &[Token]) -> Result<(ColumnName, &[Token]), ParseFault>
     ensures { Gives (λ x. (x.0, kinds_of x.1.now)) result (column_at (kinds_of tokens.now)) }
 {
@@ -49,7 +49,7 @@ pub(crate) fn column(alloc: Global, tokens: &[Token]) -> Result<(ColumnName, &[T
 }
 
 impl Front for ColumnName {
-    ghost use Rattle.star_sql.specs.PredicateFronts.{column_at};
+    ghost use Rattle.star_sql.specs.PredicateParsers.{column_at};
 
     ghost reads = { column_at };
 
@@ -59,7 +59,7 @@ impl Front for ColumnName {
 }
 
 impl Front for Word {
-    ghost use Rattle.star_sql.specs.Fronts.{name_at};
+    ghost use Rattle.star_sql.specs.Parsers.{name_at};
 
     ghost reads = { name_at };
 

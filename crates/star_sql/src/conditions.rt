@@ -1,12 +1,12 @@
 // Conditions, which are made of tests.
 ghost use Rattle.std.specs.Prelude.{suc};
-ghost use Rattle.star_sql.specs.Reading.{kinds_of};
-ghost use Rattle.star_sql.specs.Fronts.{Gives};
-ghost use Rattle.star_sql.specs.ConditionFronts.{primary_at, conj_at, cond_at};
+ghost use Rattle.star_sql.specs.ParseResult.{kinds_of};
+ghost use Rattle.star_sql.specs.Parsers.{Gives};
+ghost use Rattle.star_sql.specs.ConditionParsers.{primary_at, conj_at, cond_at};
 
-use crate::fronts::{found_left, found_word, right};
 use crate::lists::Front;
 use crate::predicates::test;
+use crate::tokens_at::{found_left, found_word, right};
 use crate::{Cond, Conj, ParseFault, Primary};
 use blink_base::{Boxed, List};
 use star_lex::Token;
@@ -14,7 +14,7 @@ use std::alloc::Global;
 
 // A test, or a condition in parentheses, in which `depth` more parentheses may be open at once.
 #[cycle(condition)]
-#[tactic(auto, unfolding(crate::specs::ConditionFronts::primary_at, crate::specs::ConditionFronts::cond_at))]
+#[tactic(auto, unfolding(crate::specs::ConditionParsers::primary_at, crate::specs::ConditionParsers::cond_at))]
 fn primary(alloc: Global, depth: usize, tokens: &[Token]) -> Result<(Primary, &[Token]), ParseFault>
     ensures { Gives (λ x. (x.0, kinds_of x.1.now)) result (primary_at (cond_at depth) (kinds_of tokens.now)) }
 {
@@ -32,7 +32,7 @@ fn primary(alloc: Global, depth: usize, tokens: &[Token]) -> Result<(Primary, &[
 
 // Primaries with AND between them.
 #[cycle(condition)]
-#[tactic(auto, unfolding(crate::specs::ConditionFronts::conj_at, crate::specs::Fronts::separated_at))]
+#[tactic(auto, unfolding(crate::specs::ConditionParsers::conj_at, crate::specs::Parsers::separated_at))]
 fn conjunction(
     alloc: Global,
     depth: usize,
@@ -57,7 +57,7 @@ fn conjunction(
 
 // Conjunctions with OR between them.
 #[cycle(condition)]
-#[tactic(auto, unfolding(crate::specs::ConditionFronts::cond_at, crate::specs::Fronts::separated_at))]
+#[tactic(auto, unfolding(crate::specs::ConditionParsers::cond_at, crate::specs::Parsers::separated_at))]
 fn condition(alloc: Global, depth: usize, tokens: &[Token]) -> Result<(Cond, &[Token]), ParseFault>
     ensures { Gives (λ x. (x.0, kinds_of x.1.now)) result (cond_at (suc depth) (kinds_of tokens.now)) }
 {
@@ -77,12 +77,12 @@ fn condition(alloc: Global, depth: usize, tokens: &[Token]) -> Result<(Cond, &[T
 }
 
 impl Front for Cond {
-    ghost use Rattle.star_sql.specs.ConditionFronts.{condition_at};
+    ghost use Rattle.star_sql.specs.ConditionParsers.{condition_at};
 
     ghost reads = { condition_at };
 
     // No more parentheses can be open than there are tokens.
-    #[tactic(auto, unfolding(crate::specs::ConditionFronts::condition_at))]
+    #[tactic(auto, unfolding(crate::specs::ConditionParsers::condition_at))]
     fn front(alloc: Global, tokens: &[Token]) -> Result<(Cond, &[Token]), ParseFault> {
         condition(alloc, tokens.len(), tokens)
     }

@@ -1,7 +1,8 @@
 // How many parentheses are open at once.
 ghost use Rattle.std.specs.Prelude.{◌≡◌};
-ghost use Rattle.star_sql.specs.Reading.{kinds_of, is_deep};
+ghost use Rattle.star_sql.specs.ParseResult.{kinds_of, is_deep};
 
+use blink_base::MOST_OPEN;
 use star_lex::{Mark, Token, TokenKind};
 
 // Whether more parentheses are open at once than may be.
@@ -17,7 +18,7 @@ pub(crate) fn is_deep(tokens: &[Token]) -> bool
             TokenKind::Symbol(Mark::Right) => closed += 1,
             _ => {}
         }
-        if closed + 32 < opened {
+        if closed + MOST_OPEN < opened {
             return true;
         }
         rest = behind;

@@ -1,18 +1,18 @@
 // The items of SELECT.
-ghost use Rattle.star_sql.specs.Reading.{kinds_of};
-ghost use Rattle.star_sql.specs.Fronts.{Gives};
-ghost use Rattle.star_sql.specs.QueryFronts.{joined_at, expr_at, aggregate_at, what_at, item_at};
+ghost use Rattle.star_sql.specs.ParseResult.{kinds_of};
+ghost use Rattle.star_sql.specs.Parsers.{Gives};
+ghost use Rattle.star_sql.specs.QueryParsers.{joined_at, expr_at, aggregate_at, what_at, item_at};
 
 use crate::columns::column;
-use crate::fronts::{is_opened, left, right, star};
 use crate::lists::{Front, inside, optional};
+use crate::tokens_at::{is_opened, left, right, star};
 use crate::{ColumnName, Expr, Item, ParseFault, What};
 use blink_base::Word;
 use star_lex::{Mark, Token, TokenKind};
 use std::alloc::Global;
 
 // An expression that begins with this column.
-#[tactic(auto, unfolding(crate::specs::QueryFronts::joined_at))]
+#[tactic(auto, unfolding(crate::specs::QueryParsers::joined_at))]
 fn joined(
     alloc: Global,
     first: ColumnName,
@@ -55,7 +55,7 @@ fn joined(
     }
 }
 
-#[tactic(auto, unfolding(crate::specs::QueryFronts::expr_at))]
+#[tactic(auto, unfolding(crate::specs::QueryParsers::expr_at))]
 fn expr(alloc: Global, tokens: &[Token]) -> Result<(Expr, &[Token]), ParseFault>
     ensures { Gives (λ x. (x.0, kinds_of x.1.now)) result (expr_at (kinds_of tokens.now)) }
 {
@@ -64,7 +64,7 @@ fn expr(alloc: Global, tokens: &[Token]) -> Result<(Expr, &[Token]), ParseFault>
 }
 
 impl Front for Expr {
-    ghost use Rattle.star_sql.specs.QueryFronts.{expr_at};
+    ghost use Rattle.star_sql.specs.QueryParsers.{expr_at};
 
     ghost reads = { expr_at };
 
@@ -74,7 +74,7 @@ impl Front for Expr {
 }
 
 // What stands behind the word of an aggregate.
-#[tactic(auto, unfolding(crate::specs::QueryFronts::aggregate_at, crate::specs::QueryFronts::star_at))]
+#[tactic(auto, unfolding(crate::specs::QueryParsers::aggregate_at, crate::specs::QueryParsers::star_at))]
 fn aggregate<'a>(
     alloc: Global,
     word: &str,
@@ -107,7 +107,7 @@ fn aggregate<'a>(
     }
 }
 
-#[tactic(auto, unfolding(crate::specs::QueryFronts::what_at))]
+#[tactic(auto, unfolding(crate::specs::QueryParsers::what_at))]
 fn what(alloc: Global, tokens: &[Token]) -> Result<(What, &[Token]), ParseFault>
     ensures { Gives (λ x. (x.0, kinds_of x.1.now)) result (what_at (kinds_of tokens.now)) }
 {
@@ -129,7 +129,7 @@ fn what(alloc: Global, tokens: &[Token]) -> Result<(What, &[Token]), ParseFault>
     }
 }
 
-#[tactic(auto, unfolding(crate::specs::QueryFronts::item_at))]
+#[tactic(auto, unfolding(crate::specs::QueryParsers::item_at))]
 fn item(alloc: Global, tokens: &[Token]) -> Result<(Item, &[Token]), ParseFault>
     ensures { Gives (λ x. (x.0, kinds_of x.1.now)) result (item_at (kinds_of tokens.now)) }
 {
@@ -139,7 +139,7 @@ fn item(alloc: Global, tokens: &[Token]) -> Result<(Item, &[Token]), ParseFault>
 }
 
 impl Front for Item {
-    ghost use Rattle.star_sql.specs.QueryFronts.{item_at};
+    ghost use Rattle.star_sql.specs.QueryParsers.{item_at};
 
     ghost reads = { item_at };
 

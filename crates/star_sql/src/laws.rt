@@ -1,5 +1,5 @@
 // Laws on statements and their spellings.
-ghost use Rattle.star_sql.specs.Reading.{SpelledOnce, DepthByPrefixes};
+ghost use Rattle.star_sql.specs.ParseResult.{SpelledOnce, DepthByPrefixes};
 
 /// Two well formed statements with one spelling are equal.
 pub fn one_spelling()

@@ -7,7 +7,6 @@ mod conditions;
 mod depth;
 pub mod examples;
 mod fault;
-mod fronts;
 mod items;
 mod laws;
 mod lists;
@@ -16,6 +15,7 @@ mod parsing;
 mod predicates;
 mod select;
 mod statements;
+mod tokens_at;
 mod words;
 
 pub use ast::{

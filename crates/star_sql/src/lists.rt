@@ -1,10 +1,10 @@
 // Lists with a comma between each two members.
 ghost use Rattle.std.specs.Prelude.{length};
-ghost use Rattle.star_sql.specs.Reading.{kinds_of};
-ghost use Rattle.star_sql.specs.Fronts.{Gives, is_comma, with_first, more_at, listed_at, inside_at, enclosed_at, optional_at, by_at};
+ghost use Rattle.star_sql.specs.ParseResult.{kinds_of};
+ghost use Rattle.star_sql.specs.Parsers.{Gives, is_comma, with_first, more_at, listed_at, inside_at, enclosed_at, optional_at, by_at};
 
 use crate::ParseFault;
-use crate::fronts::{comma, found_word, left, right, word};
+use crate::tokens_at::{comma, found_word, left, right, word};
 use blink_base::List;
 use star_lex::Token;
 use std::alloc::Global;
@@ -44,7 +44,7 @@ fn more<T: Front + Drop>(
     Ok((items, rest))
 }
 
-#[tactic(auto, unfolding(crate::specs::Fronts::separated_at))]
+#[tactic(auto, unfolding(crate::specs::Parsers::separated_at))]
 pub(crate) fn listed<T: Front + Drop>(
     alloc: Global,
     tokens: &[Token],

@@ -1,15 +1,15 @@
 // Numbers, texts and dates as they are written.
-ghost use Rattle.star_sql.specs.Reading.{kinds_of};
-ghost use Rattle.star_sql.specs.Fronts.{Gives, number_at, date_at, literal_at, limit_at};
+ghost use Rattle.star_sql.specs.ParseResult.{kinds_of};
+ghost use Rattle.star_sql.specs.Parsers.{Gives, number_at, date_at, literal_at, limit_at};
 
-use crate::fronts::text;
 use crate::lists::{Front, enclosed};
+use crate::tokens_at::text;
 use crate::{Literal, ParseFault};
-use blink_base::List;
+use blink_base::{List, NUMBER_BOUND};
 use star_lex::{Mark, Token, TokenKind};
 use std::alloc::Global;
 
-#[tactic(auto, unfolding(crate::specs::Fronts::number_at))]
+#[tactic(auto, unfolding(crate::specs::Parsers::number_at))]
 fn number(minus: bool, tokens: &[Token]) -> Result<(Literal, &[Token]), ParseFault>
     ensures { Gives (λ x. (x.0, kinds_of x.1.now)) result (number_at minus (kinds_of tokens.now)) }
 {
@@ -20,7 +20,7 @@ fn number(minus: bool, tokens: &[Token]) -> Result<(Literal, &[Token]), ParseFau
                 ..
             },
             rest @ ..,
-        ] if 0 <= *value && *value < 1_000_000_000_000_000 => {
+        ] if 0 <= *value && *value < NUMBER_BOUND => {
             Ok((
                 Literal::Number {
                     minus,
@@ -33,7 +33,7 @@ fn number(minus: bool, tokens: &[Token]) -> Result<(Literal, &[Token]), ParseFau
     }
 }
 
-#[tactic(auto, unfolding(crate::specs::Fronts::date_at))]
+#[tactic(auto, unfolding(crate::specs::Parsers::date_at))]
 fn date(alloc: Global, tokens: &[Token]) -> Result<(Literal, &[Token]), ParseFault>
     ensures { Gives (λ x. (x.0, kinds_of x.1.now)) result (date_at (kinds_of tokens.now)) }
 {
@@ -41,7 +41,7 @@ fn date(alloc: Global, tokens: &[Token]) -> Result<(Literal, &[Token]), ParseFau
     Ok((Literal::Date(date), rest))
 }
 
-#[tactic(auto, unfolding(crate::specs::Fronts::literal_at))]
+#[tactic(auto, unfolding(crate::specs::Parsers::literal_at))]
 pub(crate) fn literal(alloc: Global, tokens: &[Token]) -> Result<(Literal, &[Token]), ParseFault>
     ensures { Gives (λ x. (x.0, kinds_of x.1.now)) result (literal_at (kinds_of tokens.now)) }
 {
@@ -79,7 +79,7 @@ pub(crate) fn literal(alloc: Global, tokens: &[Token]) -> Result<(Literal, &[Tok
 }
 
 impl Front for Literal {
-    ghost use Rattle.star_sql.specs.Fronts.{literal_at};
+    ghost use Rattle.star_sql.specs.Parsers.{literal_at};
 
     ghost reads = { literal_at };
 
@@ -89,7 +89,7 @@ impl Front for Literal {
 }
 
 impl Front for List<Literal> {
-    ghost use Rattle.star_sql.specs.Fronts.{enclosed_at, literal_at};
+    ghost use Rattle.star_sql.specs.Parsers.{enclosed_at, literal_at};
 
     ghost reads = { enclosed_at literal_at };
 
@@ -99,7 +99,7 @@ impl Front for List<Literal> {
 }
 
 // The number of LIMIT.
-#[tactic(auto, unfolding(crate::specs::Fronts::limit_at))]
+#[tactic(auto, unfolding(crate::specs::Parsers::limit_at))]
 fn limit(tokens: &[Token]) -> Result<(u64, &[Token]), ParseFault>
     ensures { Gives (λ x. (x.0, kinds_of x.1.now)) result (limit_at (kinds_of tokens.now)) }
 {
@@ -110,13 +110,13 @@ fn limit(tokens: &[Token]) -> Result<(u64, &[Token]), ParseFault>
                 ..
             },
             rest @ ..,
-        ] if 0 <= *value && *value < 1_000_000_000_000_000 => Ok((*value as u64, rest)),
+        ] if 0 <= *value && *value < NUMBER_BOUND => Ok((*value as u64, rest)),
         _ => Err(ParseFault::Syntax),
     }
 }
 
 impl Front for u64 {
-    ghost use Rattle.star_sql.specs.Fronts.{limit_at};
+    ghost use Rattle.star_sql.specs.Parsers.{limit_at};
 
     ghost reads = { limit_at };
 

@@ -2,9 +2,9 @@
 ghost use Rattle.std.specs.Prelude.{◌≡◌, false, true, IfOk, Err};
 ghost use Rattle.star_sql.specs.declared.ast.Statement.{Statement};
 ghost use Rattle.star_sql.specs.declared.fault.ParseFault.TheVariants.{Deep, Syntax};
-ghost use Rattle.star_sql.specs.Reading.{kinds_of, is_deep, IsSpelled};
-ghost use Rattle.star_sql.specs.Fronts.{Gives};
-ghost use Rattle.star_sql.specs.StatementFronts.{whole};
+ghost use Rattle.star_sql.specs.ParseResult.{kinds_of, is_deep, IsSpelled};
+ghost use Rattle.star_sql.specs.Parsers.{Gives};
+ghost use Rattle.star_sql.specs.StatementParsers.{whole};
 
 use crate::depth::is_deep;
 use crate::statements::statement;
@@ -14,7 +14,7 @@ use star_lex::Token;
 use std::alloc::Global;
 
 // The statement that all of the tokens are.
-#[tactic(auto, unfolding(crate::specs::StatementFronts::whole))]
+#[tactic(auto, unfolding(crate::specs::StatementParsers::whole))]
 fn whole(alloc: Global, tokens: &[Token]) -> Result<Statement, ParseFault>
     ensures { Gives (λ s. s) result (whole (kinds_of tokens.now)) }
 {
@@ -30,7 +30,7 @@ fn whole(alloc: Global, tokens: &[Token]) -> Result<Statement, ParseFault>
 /// It takes time and memory linear in the number and the bytes of the tokens. Only a condition in parentheses is read
 /// by recursion, so 32 times deep at most; lists of any length, those of AND and OR too, don't grow the stack.
 /// Source: ISO/IEC 9075, in this project's own profile.
-#[tactic(auto, using(crate::proofs::Inverse::gives_no_depth))]
+#[tactic(auto, using(crate::proofs::StatementLemmas::gives_no_depth))]
 pub fn parse(alloc: Global, tokens: &List<Token>) -> Result<Statement, ParseFault>
     // The tokens are the spelling of the statement, which is well formed.
     ensures spelled { IfOk result (λ s. IsSpelled (kinds_of tokens.now) s) }

@@ -1,13 +1,13 @@
 // Tests of columns.
 ghost use Rattle.std.specs.Prelude.{◌≡◌};
-ghost use Rattle.star_sql.specs.Reading.{kinds_of};
-ghost use Rattle.star_sql.specs.Fronts.{Gives};
-ghost use Rattle.star_sql.specs.PredicateFronts.{op_of, compared_at, bounds_at, worded_at, tested_at, test_at};
+ghost use Rattle.star_sql.specs.ParseResult.{kinds_of};
+ghost use Rattle.star_sql.specs.Parsers.{Gives};
+ghost use Rattle.star_sql.specs.PredicateParsers.{op_of, compared_at, bounds_at, worded_at, tested_at, test_at};
 
 use crate::columns::column;
-use crate::fronts::{text, word};
 use crate::lists::enclosed;
 use crate::literals::literal;
+use crate::tokens_at::{text, word};
 use crate::{ColumnName, Literal, ParseFault, TestWords};
 use blink_base::Op;
 use star_lex::{Mark, Token, TokenKind};
@@ -29,7 +29,7 @@ fn op_of(mark: Mark) -> Option<Op>
 }
 
 // A comparison with a literal, where one stands there, or else with a column.
-#[tactic(auto, unfolding(crate::specs::PredicateFronts::compared_at))]
+#[tactic(auto, unfolding(crate::specs::PredicateParsers::compared_at))]
 fn compared(
     alloc: Global,
     left: ColumnName,
@@ -56,7 +56,7 @@ fn compared(
 }
 
 // Two literals with AND between them.
-#[tactic(auto, unfolding(crate::specs::PredicateFronts::bounds_at))]
+#[tactic(auto, unfolding(crate::specs::PredicateParsers::bounds_at))]
 fn bounds(alloc: Global, tokens: &[Token]) -> Result<(Literal, Literal, &[Token]), ParseFault>
     ensures { Gives (λ x. ((x.0, x.1), kinds_of x.2.now)) result (bounds_at (kinds_of tokens.now)) }
 {
@@ -66,7 +66,7 @@ fn bounds(alloc: Global, tokens: &[Token]) -> Result<(Literal, Literal, &[Token]
 }
 
 // What stands behind the word of a test.
-#[tactic(auto, unfolding(crate::specs::PredicateFronts::worded_at))]
+#[tactic(auto, unfolding(crate::specs::PredicateParsers::worded_at))]
 fn worded<'a>(
     alloc: Global,
     column: ColumnName,
@@ -93,7 +93,7 @@ fn worded<'a>(
 }
 
 // A test behind its column.
-#[tactic(auto, unfolding(crate::specs::PredicateFronts::tested_at))]
+#[tactic(auto, unfolding(crate::specs::PredicateParsers::tested_at))]
 fn tested(
     alloc: Global,
     column: ColumnName,
@@ -123,7 +123,7 @@ fn tested(
     }
 }
 
-#[tactic(auto, unfolding(crate::specs::PredicateFronts::test_at))]
+#[tactic(auto, unfolding(crate::specs::PredicateParsers::test_at))]
 pub(crate) fn test(alloc: Global, tokens: &[Token]) -> Result<(TestWords, &[Token]), ParseFault>
     ensures { Gives (λ x. (x.0, kinds_of x.1.now)) result (test_at (kinds_of tokens.now)) }
 {

@@ -1,19 +1,19 @@
 // SELECT.
 ghost use Rattle.std.specs.Prelude.{◌≡◌, Some};
-ghost use Rattle.star_sql.specs.Reading.{kinds_of};
-ghost use Rattle.star_sql.specs.Fronts.{Gives};
-ghost use Rattle.star_sql.specs.QueryFronts.{way_at, order_at, end_at, select_at};
+ghost use Rattle.star_sql.specs.ParseResult.{kinds_of};
+ghost use Rattle.star_sql.specs.Parsers.{Gives};
+ghost use Rattle.star_sql.specs.QueryParsers.{way_at, order_at, end_at, select_at};
 
 use crate::columns::column;
-use crate::fronts::{found_word, word};
 use crate::lists::{Front, listed, listed_by, optional};
+use crate::tokens_at::{found_word, word};
 use crate::{ColumnName, Cond, Item, OrderKey, ParseFault, Select, Way};
 use blink_base::Word;
 use star_lex::Token;
 use std::alloc::Global;
 
 // What stands behind the key.
-#[tactic(auto, unfolding(crate::specs::QueryFronts::way_at))]
+#[tactic(auto, unfolding(crate::specs::QueryParsers::way_at))]
 fn way(tokens: &[Token]) -> (Way, &[Token])
     ensures { way_at (kinds_of tokens.now) ≡ Some (result.0, kinds_of result.1.now) }
 {
@@ -26,7 +26,7 @@ fn way(tokens: &[Token]) -> (Way, &[Token])
     }
 }
 
-#[tactic(auto, unfolding(crate::specs::QueryFronts::order_at))]
+#[tactic(auto, unfolding(crate::specs::QueryParsers::order_at))]
 fn order_key(alloc: Global, tokens: &[Token]) -> Result<(OrderKey, &[Token]), ParseFault>
     ensures { Gives (λ x. (x.0, kinds_of x.1.now)) result (order_at (kinds_of tokens.now)) }
 {
@@ -36,7 +36,7 @@ fn order_key(alloc: Global, tokens: &[Token]) -> Result<(OrderKey, &[Token]), Pa
 }
 
 impl Front for OrderKey {
-    ghost use Rattle.star_sql.specs.QueryFronts.{order_at};
+    ghost use Rattle.star_sql.specs.QueryParsers.{order_at};
 
     ghost reads = { order_at };
 
@@ -46,7 +46,7 @@ impl Front for OrderKey {
 }
 
 // What stands behind the word SELECT.
-#[tactic(auto, unfolding(crate::specs::QueryFronts::select_at, crate::specs::QueryFronts::end_at))]
+#[tactic(auto, unfolding(crate::specs::QueryParsers::select_at, crate::specs::QueryParsers::end_at))]
 pub(crate) fn select(alloc: Global, tokens: &[Token]) -> Result<(Select, &[Token]), ParseFault>
     ensures { Gives (λ x. (x.0, kinds_of x.1.now)) result (select_at (kinds_of tokens.now)) }
 {

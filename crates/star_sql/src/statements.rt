@@ -1,18 +1,18 @@
 // The statements, by their first words.
 ghost use Rattle.star_sql.specs.declared.ast.Statement.TheVariants as statement;
-ghost use Rattle.star_sql.specs.Reading.{kinds_of};
-ghost use Rattle.star_sql.specs.Fronts.{Gives, made_of};
-ghost use Rattle.star_sql.specs.StatementFronts.{definition_at, named_at, filed_at, create_at, insert_at, of_both, behind_word, statement_at};
+ghost use Rattle.star_sql.specs.ParseResult.{kinds_of};
+ghost use Rattle.star_sql.specs.Parsers.{Gives, made_of};
+ghost use Rattle.star_sql.specs.StatementParsers.{definition_at, named_at, filed_at, create_at, insert_at, of_both, behind_word, statement_at};
 
-use crate::fronts::{key, kind, name, text, word};
 use crate::lists::{Front, enclosed, listed};
 use crate::select::select;
+use crate::tokens_at::{key, kind, name, text, word};
 use crate::{ColumnDef, Literal, ParseFault, Statement};
 use blink_base::{List, Word};
 use star_lex::{Token, TokenKind};
 use std::alloc::Global;
 
-#[tactic(auto, unfolding(crate::specs::StatementFronts::definition_at))]
+#[tactic(auto, unfolding(crate::specs::StatementParsers::definition_at))]
 fn definition(alloc: Global, tokens: &[Token]) -> Result<(ColumnDef, &[Token]), ParseFault>
     ensures { Gives (λ x. (x.0, kinds_of x.1.now)) result (definition_at (kinds_of tokens.now)) }
 {
@@ -23,7 +23,7 @@ fn definition(alloc: Global, tokens: &[Token]) -> Result<(ColumnDef, &[Token]), 
 }
 
 impl Front for ColumnDef {
-    ghost use Rattle.star_sql.specs.StatementFronts.{definition_at};
+    ghost use Rattle.star_sql.specs.StatementParsers.{definition_at};
 
     ghost reads = { definition_at };
 
@@ -32,7 +32,7 @@ impl Front for ColumnDef {
     }
 }
 
-#[tactic(auto, unfolding(crate::specs::StatementFronts::named_at))]
+#[tactic(auto, unfolding(crate::specs::StatementParsers::named_at))]
 fn named<'a>(
     alloc: Global,
     first: &str,
@@ -43,7 +43,7 @@ fn named<'a>(
     name(alloc, word(first, tokens)?)
 }
 
-#[tactic(auto, unfolding(crate::specs::StatementFronts::filed_at))]
+#[tactic(auto, unfolding(crate::specs::StatementParsers::filed_at))]
 fn filed<'a>(
     alloc: Global,
     first: &str,
@@ -57,7 +57,7 @@ fn filed<'a>(
     Ok((name, file, rest))
 }
 
-#[tactic(auto, unfolding(crate::specs::StatementFronts::create_at))]
+#[tactic(auto, unfolding(crate::specs::StatementParsers::create_at))]
 fn create(alloc: Global, tokens: &[Token]) -> Result<(Statement, &[Token]), ParseFault>
     ensures { Gives (λ x. (x.0, kinds_of x.1.now)) result (made_of (of_both statement.Create) (create_at (kinds_of tokens.now))) }
 {
@@ -66,7 +66,7 @@ fn create(alloc: Global, tokens: &[Token]) -> Result<(Statement, &[Token]), Pars
     Ok((Statement::Create { name, columns }, rest))
 }
 
-#[tactic(auto, unfolding(crate::specs::StatementFronts::insert_at))]
+#[tactic(auto, unfolding(crate::specs::StatementParsers::insert_at))]
 fn insert(alloc: Global, tokens: &[Token]) -> Result<(Statement, &[Token]), ParseFault>
     ensures { Gives (λ x. (x.0, kinds_of x.1.now)) result (made_of (of_both statement.Insert) (insert_at (kinds_of tokens.now))) }
 {
@@ -76,7 +76,7 @@ fn insert(alloc: Global, tokens: &[Token]) -> Result<(Statement, &[Token]), Pars
 }
 
 // What stands behind the first word of a statement.
-#[tactic(auto, unfolding(crate::specs::StatementFronts::behind_word))]
+#[tactic(auto, unfolding(crate::specs::StatementParsers::behind_word))]
 fn behind_word<'a>(
     alloc: Global,
     verb: &str,
@@ -127,7 +127,7 @@ fn behind_word<'a>(
     }
 }
 
-#[tactic(auto, unfolding(crate::specs::StatementFronts::statement_at))]
+#[tactic(auto, unfolding(crate::specs::StatementParsers::statement_at))]
 pub(crate) fn statement(
     alloc: Global,
     tokens: &[Token],

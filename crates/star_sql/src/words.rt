@@ -2,8 +2,8 @@
 ghost use Rattle.std.specs.Prelude.{◌≡◌, not};
 ghost use Rattle.std.specs.List.{list_all};
 ghost use Rattle.std.specs.Char.{is_ascii_uppercase};
-ghost use Rattle.blink_base.specs.Words.{begins_name, is_name_byte, is_kept_word, is_reserved, is_name};
-ghost use Rattle.star_sql.specs.Fronts.{kind_of_word};
+ghost use Rattle.blink_base.specs.Identifiers.{begins_name, is_name_byte, is_kept_word, is_reserved, is_name};
+ghost use Rattle.star_sql.specs.Parsers.{kind_of_word};
 
 use blink_base::Kind;
 
@@ -74,7 +74,7 @@ pub(crate) fn is_name(word: &str) -> bool
     is_kept_word(word.as_bytes()) && !is_reserved(word)
 }
 
-#[tactic(auto, unfolding(crate::specs::Fronts::kind_of_word))]
+#[tactic(auto, unfolding(crate::specs::Parsers::kind_of_word))]
 pub(crate) fn kind_of_word(word: &str) -> Option<Kind>
     ensures { result ≡ kind_of_word word.now }
 {

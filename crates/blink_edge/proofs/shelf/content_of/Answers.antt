@@ -1,6 +1,6 @@
 use Rattle.std.proofs.Common.{◌∙◌, ℕ, Vec, Option, option_map, ap}
 use Rattle.std.specs.declared.alloc.Global.{Global}
-use Rattle.blink_edge.proofs.FileFacts.{get_files}
+use Rattle.blink_edge.proofs.FileLemmas.{get_files}
 use Rattle.blink_edge.proofs.shelf.content_of.Goals as goal
 
 pub returns-in-Some : goal.returns-in-Some

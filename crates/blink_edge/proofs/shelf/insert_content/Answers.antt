@@ -1,6 +1,6 @@
 use Rattle.std.proofs.Common.{◌∙◌, ap}
 use Rattle.blink_edge.specs.Memory.{files_of}
-use Rattle.blink_edge.proofs.FileFacts.{files_insert_entry}
+use Rattle.blink_edge.proofs.FileLemmas.{files_insert_entry}
 use Rattle.blink_edge.proofs.shelf.insert_content.Goals as goal
 
 pub returns-clause-set : goal.returns-clause-set

@@ -1,5 +1,5 @@
 use Rattle.std.proofs.Common.{arith}
-use Rattle.blink_loader.proofs.RangeFacts.{few_records}
+use Rattle.blink_loader.proofs.RangeCountLemmas.{few_records}
 use Rattle.blink_loader.proofs.batch.load.Goals as goal
 
 pub batch_over-requires-clause-records : goal.batch_over-requires-clause-records

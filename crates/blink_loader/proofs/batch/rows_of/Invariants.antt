@@ -1,6 +1,6 @@
 use Rattle.std.proofs.Common.{◌≡◌, ◌≤◌, ◌+◌, length}
 use Rattle.blink_loader.specs.Batch.{rows_from}
-use Rattle.blink_loader.proofs.BatchFacts.{behind}
+use Rattle.blink_loader.proofs.BatchLemmas.{behind}
 use Rattle.blink_loader.proofs.batch.rows_of.Given as goal
 
 abbrev pub invariant-loop-next : goal.invariant-loop-next

@@ -1,7 +1,7 @@
 use Rattle.std.proofs.Common.{◌≡◌, ◌∙◌, sym, length, arith}
 use Rattle.std.proofs.lemmas.Result.{err_from_is_err_and}
 use Rattle.csv.specs.Records.{fields_of}
-use Rattle.blink_loader.proofs.BatchFacts.{value_read, value_refused, values_read}
+use Rattle.blink_loader.proofs.BatchLemmas.{value_read, value_refused, values_read}
 use Rattle.blink_loader.proofs.batch.values_of.Goals as goal
 
 pub returns-in_err-value : goal.returns-in_err-value

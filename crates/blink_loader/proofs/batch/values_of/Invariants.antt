@@ -2,7 +2,7 @@ use Rattle.std.proofs.Common.{◌≡◌, ◌+◌, drop}
 use Rattle.std.specs.List.{zip}
 use Rattle.csv.specs.Records.{fields_of}
 use Rattle.blink_loader.specs.Batch.{values_from}
-use Rattle.blink_loader.proofs.BatchFacts.{behind}
+use Rattle.blink_loader.proofs.BatchLemmas.{behind}
 use Rattle.blink_loader.proofs.batch.values_of.Given as goal
 
 abbrev pub invariant-loop-place : goal.invariant-loop-place

@@ -1,7 +1,7 @@
 use Rattle.std.proofs.Common.{◌∙◌, is_some, Ok, Err, subst}
 use Rattle.blink_base.specs.declared.limits.Limits.{Limits}
-use Rattle.blink_run.specs.Replies.{IsSaidFrom}
-use Rattle.blink_run.proofs.Stating.{piece_said, piece_stopped}
+use Rattle.blink_run.specs.StatementOutput.{IsSaidFrom}
+use Rattle.blink_run.proofs.PieceOutputLemmas.{piece_said, piece_stopped}
 use Rattle.blink_run.proofs.answers.answer_by.Goals as goal
 
 pub returns-in-Ok-clause-answer : goal.returns-in-Ok-clause-answer

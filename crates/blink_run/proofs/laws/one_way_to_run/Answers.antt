@@ -1,4 +1,4 @@
-use Rattle.blink_run.proofs.Outcomes.{runs_one_way}
+use Rattle.blink_run.proofs.OutcomeLemmas.{runs_one_way}
 use Rattle.blink_run.proofs.laws.one_way_to_run.Goals as goal
 
 pub returns : goal.returns

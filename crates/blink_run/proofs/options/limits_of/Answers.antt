@@ -1,5 +1,5 @@
 use Rattle.std.proofs.Common.{sym, string_bytes, arith}
-use Rattle.blink_run.proofs.LimitsOf.{limits_of-none}
+use Rattle.blink_run.proofs.RequestLemmas.{limits_of-none}
 use Rattle.blink_run.proofs.options.limits_of.Goals as goal
 
 pub returns-in_default : goal.returns-in_default

@@ -1,7 +1,7 @@
 use Rattle.std.proofs.Common.{is_some, length}
-use Rattle.blink_run.specs.Running.{GivesAll, sink_view}
-use Rattle.blink_run.proofs.Answering.{passed_answered, step_answered, step_cut, too_small}
-use Rattle.blink_run.proofs.Stating.{stopped_first}
+use Rattle.blink_run.specs.PiecesRun.{GivesAll, sink_view}
+use Rattle.blink_run.proofs.PiecesRunLemmas.{passed_answered, step_answered, step_cut, too_small}
+use Rattle.blink_run.proofs.PieceOutputLemmas.{stopped_first}
 use Rattle.blink_run.proofs.pieces.answer_piece.Goals as goal
 
 pub returns-in-Ok-None-clause-answered : goal.returns-in-Ok-None-clause-answered

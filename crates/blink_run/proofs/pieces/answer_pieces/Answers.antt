@@ -1,10 +1,10 @@
 use Rattle.std.proofs.Common.{◌+◌, [], ◌∷◌, map, take, drop, is_some, arith}
 use Rattle.std.proofs.lemmas.List.{take_all}
-use Rattle.blink_run.specs.Running.{sink_view}
-use Rattle.blink_run.specs.Places.{text_at}
-use Rattle.blink_run.proofs.Answering.{none_answered, pieces_more, pieces_split, IfErr-from_is}
-use Rattle.blink_run.proofs.Asking.{not_asked, asked_again}
-use Rattle.blink_run.proofs.Going.{answered_on, stopped_on}
+use Rattle.blink_run.specs.PiecesRun.{sink_view}
+use Rattle.blink_run.specs.PieceSpans.{text_at}
+use Rattle.blink_run.proofs.PiecesRunLemmas.{none_answered, pieces_more, pieces_split, IfErr-from_is}
+use Rattle.blink_run.proofs.StoreAskedLemmas.{not_asked, asked_again}
+use Rattle.blink_run.proofs.EngineStartLemmas.{answered_on, stopped_on}
 use Rattle.blink_run.proofs.pieces.answer_pieces.Goals as goal
 
 pub loop-place-init : goal.loop-place-init

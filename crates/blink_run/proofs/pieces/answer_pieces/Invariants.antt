@@ -1,10 +1,10 @@
 use Rattle.std.proofs.Common.{map, take, is_some}
 use Rattle.blink_base.specs.declared.limits.Limits.{Limits}
-use Rattle.star_engine.specs.Catalog.{State}
-use Rattle.star_engine.specs.Shown.{HasTables}
+use Rattle.star_engine.specs.State.{State}
+use Rattle.star_engine.specs.EngineRepr.{HasTables}
 use Rattle.blink_run.specs.Ends.{IsAsked}
-use Rattle.blink_run.specs.Running.{AreAnswered, Stands, sink_view}
-use Rattle.blink_run.specs.Places.{text_at}
+use Rattle.blink_run.specs.PiecesRun.{AreAnswered, Stands, sink_view}
+use Rattle.blink_run.specs.PieceSpans.{text_at}
 use Rattle.blink_run.proofs.pieces.answer_pieces.Given as goal
 
 abbrev pub invariant-loop-place : goal.invariant-loop-place

@@ -1,11 +1,11 @@
 use Rattle.std.proofs.Common.{◌∙◌, true, false, is_some}
 use Rattle.blink_run.specs.Script.{start}
-use Rattle.blink_run.specs.Running.{sink_view}
-use Rattle.blink_run.proofs.Answering.{all_left}
-use Rattle.blink_run.proofs.Ending.{files_told, are_told}
-use Rattle.blink_run.proofs.Giving.{all_given, first_given, part_given, asked_given, left_sure, run_left, asking_left, cut_sure}
-use Rattle.blink_run.proofs.Going.{at_start}
-use Rattle.blink_run.proofs.Within.{pieces_within}
+use Rattle.blink_run.specs.PiecesRun.{sink_view}
+use Rattle.blink_run.proofs.PiecesRunLemmas.{all_left}
+use Rattle.blink_run.proofs.EndLemmas.{files_told, are_told}
+use Rattle.blink_run.proofs.ScriptOutputLemmas.{all_given, first_given, part_given, asked_given, left_sure, run_left, asking_left, cut_sure}
+use Rattle.blink_run.proofs.EngineStartLemmas.{at_start}
+use Rattle.blink_run.proofs.PieceSpanLemmas.{pieces_within}
 use Rattle.blink_run.proofs.script.answer_script.Goals as goal
 
 pub returns-in-Err-clause-ends : goal.returns-in-Err-clause-ends

@@ -1,11 +1,11 @@
 use Rattle.std.proofs.Common.{◌∙◌, is_some, true, sym, ap, subst}
 use Rattle.report_text.specs.Texts.{refusal_bytes}
-use Rattle.star_engine.specs.Batches.{loaded}
-use Rattle.star_engine.specs.Catalog.{Tables, held_of}
+use Rattle.star_engine.specs.LoadedRows.{loaded}
+use Rattle.star_engine.specs.State.{Tables, find_table}
 use Rattle.star_engine.specs.Changes.{added}
-use Rattle.star_engine.specs.Shown.{IsEngineOf, shown}
-use Rattle.blink_run.specs.Replies.{loads}
-use Rattle.blink_run.proofs.Replying.{reply_addition, reply_line, reply_found, finds_tables, file_rows, refused_file, there}
+use Rattle.star_engine.specs.EngineRepr.{IsEngineOf, table_of}
+use Rattle.blink_run.specs.StatementOutput.{loads}
+use Rattle.blink_run.proofs.StatementOutputLemmas.{reply_addition, reply_line, reply_found, finds_tables, file_rows, refused_file, there}
 use Rattle.blink_run.proofs.statements.add_file.Goals as goal
 
 pub returns-in-Ok-clause-reply : goal.returns-in-Ok-clause-reply
@@ -37,8 +37,8 @@ returns-in-Err-clause-reply g c state of are =
     let P : Tables → Type 0 = λ ts. IsEngineOf ts c.args.engine.now in
     let here : IsEngineOf found.tables c.args.engine.now = subst P (sym same) of in
     let looked = rw c.as_str.ensures at (c.find.ensures.held state.tables of) in
-    let table = there (λ x. x.now) shown c.find.result state.tables name c.if-is_none.ensures looked in
-    let is = ap (λ (ts : Tables). held_of ts name) same ∙ table.is in
+    let table = there (λ x. x.now) table_of c.find.result state.tables name c.if-is_none.ensures looked in
+    let is = ap (λ (ts : Tables). find_table ts name) same ∙ table.is in
     reply_found limits held (is_some held) state found (loads c.args.anew name file) c.refused.result c.args.engine.now
     (reply_line limits found (loads c.args.anew name file) found.tables (refusal_bytes c.in-Err.why) true c.refused.result c.args.engine.now c.refused.ensures
     (refused_file limits found c.args.anew name file table.held c.in-Err.why is got.bytes) here)

@@ -1,4 +1,4 @@
-use Rattle.blink_run.proofs.Replying.{no_store_fault, without_files}
+use Rattle.blink_run.proofs.StatementOutputLemmas.{no_store_fault, without_files}
 use Rattle.blink_run.proofs.statements.answer_statement.Goals as goal
 
 pub returns-in-Create-clause-rose : goal.returns-in-Create-clause-rose

@@ -2,7 +2,7 @@ use Rattle.std.proofs.Common.{refl}
 use Rattle.report_text.specs.Texts.{created_bytes}
 use Rattle.star_sql.specs.declared.ast.Statement.TheVariants as statement
 use Rattle.star_engine.specs.Changes.{created}
-use Rattle.blink_run.proofs.Replying.{reply_change, no_change}
+use Rattle.blink_run.proofs.StatementOutputLemmas.{reply_change, no_change}
 use Rattle.blink_run.proofs.statements.create.Goals as goal
 
 pub returns-in-Ok-clause-reply : goal.returns-in-Ok-clause-reply

@@ -1,8 +1,8 @@
 use Rattle.std.proofs.Common.{refl}
 use Rattle.report_text.specs.Texts.{layout_bytes}
 use Rattle.star_sql.specs.declared.ast.Statement.TheVariants as statement
-use Rattle.star_engine.specs.Layouts.{described}
-use Rattle.blink_run.proofs.Replying.{reply_layout}
+use Rattle.star_engine.specs.TableLayout.{described}
+use Rattle.blink_run.proofs.StatementOutputLemmas.{reply_layout}
 use Rattle.blink_run.proofs.statements.describe.Goals as goal
 
 pub returns-in-Ok : goal.returns-in-Ok

@@ -1,4 +1,4 @@
-use Rattle.blink_run.proofs.Fetching.{whole_fetched, absent_fetched, long_fetched}
+use Rattle.blink_run.proofs.FetchLemmas.{whole_fetched, absent_fetched, long_fetched}
 use Rattle.blink_run.proofs.statements.fetch_csv.Goals as goal
 
 pub returns-in-Ok-Whole-clause-got : goal.returns-in-Ok-Whole-clause-got

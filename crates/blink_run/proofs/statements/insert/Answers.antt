@@ -1,8 +1,8 @@
 use Rattle.std.proofs.Common.{false, refl}
 use Rattle.star_sql.specs.declared.ast.Statement.TheVariants as statement
 use Rattle.star_engine.specs.Changes.{added}
-use Rattle.star_engine.specs.Written.{written}
-use Rattle.blink_run.proofs.Replying.{reply_addition}
+use Rattle.star_engine.specs.InsertedRows.{written}
+use Rattle.blink_run.proofs.StatementOutputLemmas.{reply_addition}
 use Rattle.blink_run.proofs.statements.insert.Goals as goal
 
 pub returns-clause-reply : goal.returns-clause-reply

@@ -1,10 +1,10 @@
 use Rattle.std.proofs.Common.{◌≡◌, is_some}
 use Rattle.blink_run.specs.Ends.{stream_view}
-use Rattle.blink_run.specs.Words.{asked_of}
+use Rattle.blink_run.specs.Request.{asked_of}
 use Rattle.blink_run.specs.declared.status.Status.TheVariants.{StoreFault}
 use Rattle.blink_run.specs.declared.words.Request.TheVariants.{Count}
 use Rattle.blink_run.specs.Program.{nothing_known}
-use Rattle.blink_run.proofs.Ending.{files_told, no_store_fault}
+use Rattle.blink_run.proofs.EndLemmas.{files_told, no_store_fault}
 use Rattle.blink_run.proofs.top_call.answer.Goals as goal
 
 pub returns-in-Count-clause-ends : goal.returns-in-Count-clause-ends

@@ -1,10 +1,10 @@
 use Rattle.std.proofs.Common.{◌+◌, [], refl, inl, is_some}
 use Rattle.std.proofs.KnownBytes.{Keeps-refl}
-use Rattle.blink_loader.specs.Range.{longest_input}
+use Rattle.blink_base.specs.declared.limits.TheConstants.{LONGEST_INPUT}
 use Rattle.blink_run.specs.Ends.{NothingGiven, outside, stream_view, store_view}
 use Rattle.blink_run.specs.Program.{nothing_known}
-use Rattle.blink_run.specs.Words.{asked_of}
-use Rattle.blink_run.proofs.Ending.{files_told, are_told, nothing_read, read_whole, known_reads, ends_by, complete_by, input_is}
+use Rattle.blink_run.specs.Request.{asked_of}
+use Rattle.blink_run.proofs.EndLemmas.{files_told, are_told, nothing_read, read_whole, known_reads, ends_by, complete_by, input_is}
 use Rattle.blink_run.proofs.top_call.counted.Goals as goal
 
 pub returns-in-Unknown-clause-ends : goal.returns-in-Unknown-clause-ends
@@ -63,5 +63,5 @@ returns-clause-ends g c =
     let old = outside (stream_view g.R.Source.left g.R.Source.faults c.args.input.now) sink store in
     let new = outside (stream_view g.R.Source.left g.R.Source.faults c.read_all.new.source) sink store in
     let part = c.in-Err-Memory.ensures.part in
-    let nothing : NothingGiven asked (longest_input + 1) old new = (known_reads c.of_words-request.result c.in_default.not-Unknown, Keeps-refl _, (part.0, part.1, part.2)) in
+    let nothing : NothingGiven asked (LONGEST_INPUT + 1) old new = (known_reads c.of_words-request.result c.in_default.not-Unknown, Keeps-refl _, (part.0, part.1, part.2)) in
     inl (rw (← c.of_words-request.ensures.asked) nothing)

@@ -1,5 +1,5 @@
 use Rattle.std.proofs.Common.{◌<◌, ◌++◌, ◌∙◌, sym, ap, take, length, arith}
-use Rattle.blink_histogram.specs.Ranked.{counted}
+use Rattle.blink_histogram.specs.Ranks.{counted}
 use Rattle.cell_layout.specs.Image.{column_values}
 use Rattle.cell_layout.specs.Refusals.{duplicate_of}
 use Rattle.cell_layout.proofs.Repeated.{key_at, keys_more, once_here, twice_here, none_all, length-keys}

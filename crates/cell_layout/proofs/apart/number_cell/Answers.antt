@@ -1,6 +1,6 @@
 use Rattle.std.proofs.Common.{◌++◌, ◌<◌, ◌∙◌, sym, ap, take, length, get_or, arith}
 use Rattle.std.proofs.lemmas.List.{take_all}
-use Rattle.blink_histogram.specs.Ranked.{counted}
+use Rattle.blink_histogram.specs.Ranks.{counted}
 use Rattle.cell_layout.specs.Image.{column_values}
 use Rattle.cell_layout.specs.Standing.{rows_in}
 use Rattle.cell_layout.proofs.KeptRows.{code_below, length-in}

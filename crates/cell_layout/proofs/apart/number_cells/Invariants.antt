@@ -1,10 +1,10 @@
 use Rattle.std.proofs.Common.{◌≡◌, ◌+◌, ◌++◌, List, take}
 use Rattle.std.specs.List.{flat_map}
 use Rattle.blink_base.specs.declared.value.Value.{Value}
-use Rattle.blink_histogram.specs.Ranked.{counted}
-use Rattle.blink_histogram.specs.Numbering.{numbered_values}
+use Rattle.blink_histogram.specs.Ranks.{counted}
+use Rattle.blink_histogram.specs.InternerRepr.{numbered_values}
 use Rattle.cell_layout.specs.Image.{column_values}
-use Rattle.cell_layout.specs.Putting.{rows_in_all}
+use Rattle.cell_layout.specs.InsertRowRepr.{rows_in_all}
 use Rattle.cell_layout.specs.Standing.{rows_in}
 use Rattle.cell_layout.proofs.apart.number_cells.Given as goal
 

@@ -1,10 +1,10 @@
 use Rattle.std.proofs.Common.{rules, ap, ◌∙◌}
 use Rattle.std.specs.Ordering.{is_lt}
 use Rattle.std.proofs.lemmas.List.Sorted.{ranks_by, answers_always}
-use Rattle.blink_lists.proofs.InOrder.{sorted_in_order}
+use Rattle.blink_lists.proofs.OrderLemmas.{sorted_in_order}
 use Rattle.blink_lists.specs.Lists.{in_order}
-use Rattle.blink_base.specs.Compared.{value_cmp}
-use Rattle.blink_base.specs.Order.{value_total, value_same}
+use Rattle.blink_base.specs.Values.{value_cmp}
+use Rattle.blink_base.specs.ValueOrder.{value_total, value_same}
 use Rattle.blink_base.specs.declared.value.Value.{Value}
 use Rattle.cell_layout.proofs.class.class_of.Goals as goal
 

@@ -1,7 +1,7 @@
 use Rattle.std.proofs.Common.{◌≡◌, ◌≤◌, ◌++◌, List, Some, map, drop, slice_get, sum, length}
-use Rattle.blink_histogram.specs.Ranked.{Counted}
-use Rattle.cell_layout.specs.Laid.{classes_by}
-use Rattle.cell_layout.specs.Ranking.{HasValues}
+use Rattle.blink_histogram.specs.Ranks.{Counted}
+use Rattle.cell_layout.specs.Layout.{classes_by}
+use Rattle.cell_layout.specs.ColumnStats.{HasValues}
 use Rattle.cell_layout.proofs.class.classes_in.Given as goal
 
 abbrev pub invariant-loop-size : goal.invariant-loop-size

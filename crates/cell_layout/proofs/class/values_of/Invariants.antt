@@ -1,5 +1,5 @@
 use Rattle.std.proofs.Common.{◌≡◌, List, Some, map, take, slice_get}
-use Rattle.blink_histogram.specs.Ranked.{Counted}
+use Rattle.blink_histogram.specs.Ranks.{Counted}
 use Rattle.cell_layout.proofs.class.values_of.Given as goal
 
 abbrev pub invariant-loop-number : goal.invariant-loop-number

@@ -1,8 +1,8 @@
 use Rattle.std.proofs.Common.{[], pos, get_or, ap, sym, ◌∙◌}
 use Rattle.std.proofs.lemmas.List.{map-append}
 use Rattle.blink_base.specs.declared.value.Value.TheVariants.{Int}
-use Rattle.blink_base.specs.Compared.{Row}
-use Rattle.blink_histogram.specs.Ranked.{counted}
+use Rattle.blink_base.specs.Values.{Row}
+use Rattle.blink_histogram.specs.Ranks.{counted}
 use Rattle.cell_layout.specs.Image.{column_values}
 use Rattle.cell_layout.proofs.column.interned.Goals as goal
 

@@ -1,7 +1,7 @@
 use Rattle.std.proofs.Common.{◌≡◌, ◌+◌, ◌++◌, List, take}
 use Rattle.blink_base.specs.declared.value.Value.{Value}
-use Rattle.blink_histogram.specs.Ranked.{counted}
-use Rattle.blink_histogram.specs.Numbering.{numbered_values}
+use Rattle.blink_histogram.specs.Ranks.{counted}
+use Rattle.blink_histogram.specs.InternerRepr.{numbered_values}
 use Rattle.cell_layout.specs.Image.{column_values}
 use Rattle.cell_layout.proofs.column.number_column.Given as goal
 

@@ -1,10 +1,10 @@
 use Rattle.std.proofs.Common.{◌==◌, ◌++◌, length, ap, ◌∙◌, sym, subst, arith}
 use Rattle.std.specs.List.{list_any}
 use Rattle.std.proofs.lemmas.List.{take_all}
-use Rattle.blink_histogram.specs.Ranked.{ranked}
+use Rattle.blink_histogram.specs.Ranks.{ranked}
 use Rattle.cell_layout.specs.Image.{column_values}
-use Rattle.cell_layout.specs.Laid.{divided_columns, ranked_columns}
-use Rattle.cell_layout.specs.Ranking.{AreRanked, IsRanked}
+use Rattle.cell_layout.specs.Layout.{divided_columns, ranked_columns}
+use Rattle.cell_layout.specs.ColumnStats.{AreRanked, IsRanked}
 use Rattle.cell_layout.proofs.Dividing.{chosen_kept, divided_more, length-divided, length-savings}
 use Rattle.cell_layout.proofs.dicts.dicts_of.Goals as goal
 

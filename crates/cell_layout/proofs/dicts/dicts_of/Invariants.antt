@@ -1,5 +1,5 @@
 use Rattle.std.proofs.Common.{◌≡◌, ◌++◌, take}
-use Rattle.cell_layout.specs.Laid.{divided_columns, ranked_columns}
+use Rattle.cell_layout.specs.Layout.{divided_columns, ranked_columns}
 use Rattle.cell_layout.proofs.dicts.dicts_of.Given as goal
 
 abbrev pub invariant-loop-column : goal.invariant-loop-column

@@ -1,7 +1,7 @@
 use Rattle.std.proofs.Common.{◌+◌, ◌≤◌, [], ◌++◌, subst, ap, sym, ◌∙◌}
-use Rattle.cell_layout.specs.Valid.{most_rows}
-use Rattle.cell_layout.specs.Putting.{rows_in_all}
-use Rattle.cell_layout.specs.Merging.{AreAlike, AreMerged}
+use Rattle.blink_lists.specs.declared.limits.TheConstants.{MOST_ROWS}
+use Rattle.cell_layout.specs.InsertRowRepr.{rows_in_all}
+use Rattle.cell_layout.specs.MergeCells.{AreAlike, AreMerged}
 use Rattle.cell_layout.proofs.Added.{added_placed, both_alike, both_rise, both_few}
 use Rattle.cell_layout.proofs.merge.add_placed.Goals as goal
 
@@ -16,7 +16,7 @@ merge-requires-clause-order c =
 
 pub merge-requires-clause-few : goal.merge-requires-clause-few
 merge-requires-clause-few c =
-    subst (λ l. rows_in_all c.make_room.new.cells.0 + rows_in_all l ≤ most_rows) (sym c.into_vec.ensures)
+    subst (λ l. rows_in_all c.make_room.new.cells.0 + rows_in_all l ≤ MOST_ROWS) (sym c.into_vec.ensures)
     (both_few c.args.cells.now.0 c.make_room.new.cells.0 c.args.more.cells.0 c.args.rest.now.0 c.make_room.new.rest.0 c.args.more.rest.0 c.requires c.make_room.ensures.same)
 
 pub returns-clause-ok : goal.returns-clause-ok

@@ -1,6 +1,6 @@
 use Rattle.std.proofs.Common.{◌≡◌, ◌≤◌, length}
 use Rattle.std.specs.Vec.Iter.{into_iter_items, into_iter_len}
-use Rattle.cell_layout.specs.Merging.{AreMerged}
+use Rattle.cell_layout.specs.MergeCells.{AreMerged}
 use Rattle.cell_layout.proofs.merge.merge.Given as goal
 
 abbrev pub invariant-loop-cell : goal.invariant-loop-cell

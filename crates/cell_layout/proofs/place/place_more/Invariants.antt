@@ -1,6 +1,6 @@
 use Rattle.std.proofs.Common.{◌++◌, List, take}
-use Rattle.blink_base.specs.Compared.{Row}
-use Rattle.cell_layout.specs.Placed.{ArePlaced}
+use Rattle.blink_base.specs.Values.{Row}
+use Rattle.cell_layout.specs.RowPartition.{ArePlaced}
 use Rattle.cell_layout.proofs.place.place_more.Given as goal
 
 abbrev pub invariant-loop-row : goal.invariant-loop-row

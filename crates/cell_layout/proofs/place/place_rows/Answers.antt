@@ -1,5 +1,5 @@
 use Rattle.std.proofs.Common.{[]}
-use Rattle.cell_layout.specs.Placed.{ArePlaced}
+use Rattle.cell_layout.specs.RowPartition.{ArePlaced}
 use Rattle.cell_layout.proofs.PlacedRows.{none_placed}
 use Rattle.cell_layout.proofs.place.place_rows.Goals as goal
 

@@ -1,5 +1,5 @@
 use Rattle.std.proofs.Common.{take}
-use Rattle.cell_layout.specs.Merging.{AreRoomierCells, HaveRoomFor}
+use Rattle.cell_layout.specs.MergeCells.{AreRoomierCells, HaveRoomFor}
 use Rattle.cell_layout.proofs.room.reserve_cells.Given as goal
 
 abbrev pub invariant-loop-cell : goal.invariant-loop-cell

@@ -1,5 +1,5 @@
 use Rattle.std.proofs.Common.{◌≤◌, ◌<◌, ℕ, List, get_or}
-use Rattle.cell_layout.specs.Merging.{AreRoomier}
+use Rattle.cell_layout.specs.MergeCells.{AreRoomier}
 use Rattle.cell_layout.proofs.room.reserve_columns.Given as goal
 
 abbrev pub invariant-loop-column : goal.invariant-loop-column

@@ -1,5 +1,5 @@
 use Rattle.std.proofs.Common.{subst}
-use Rattle.cell_layout.specs.Places.{IsMissing}
+use Rattle.cell_layout.specs.CellIndex.{IsMissing}
 use Rattle.cell_layout.proofs.Roomier.{found_reserved, missing_room}
 use Rattle.cell_layout.proofs.room.reserve_for.Goals as goal
 

@@ -1,6 +1,6 @@
 use Rattle.std.proofs.Common.{map, ap, ◌∙◌}
 use Rattle.std.proofs.lemmas.List.{take_all}
-use Rattle.cell_layout.specs.declared.ranks.RankedColumn.{RankedColumn}
+use Rattle.cell_layout.specs.declared.column_stats.RankedColumn.{RankedColumn}
 use Rattle.cell_layout.proofs.RankedPush.{savings_ranked}
 use Rattle.cell_layout.proofs.savings.savings_of.Goals as goal
 

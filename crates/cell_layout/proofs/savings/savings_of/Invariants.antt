@@ -1,5 +1,5 @@
 use Rattle.std.proofs.Common.{◌≡◌, map, take}
-use Rattle.cell_layout.specs.declared.ranks.RankedColumn.{RankedColumn}
+use Rattle.cell_layout.specs.declared.column_stats.RankedColumn.{RankedColumn}
 use Rattle.cell_layout.proofs.savings.savings_of.Given as goal
 
 abbrev pub invariant-loop-column : goal.invariant-loop-column

@@ -1,7 +1,7 @@
 -- The search from no classes on goes over all candidates.
 use Rattle.std.proofs.Common.{◌-◌, length, arith}
 use Rattle.freq_partition.specs.Candidate.{division_in}
-use Rattle.freq_partition.proofs.Searched.{finds_best}
+use Rattle.freq_partition.proofs.SearchLemmas.{finds_best}
 use Rattle.freq_partition.proofs.division.best_of.Goals as goal
 
 pub returns : goal.returns

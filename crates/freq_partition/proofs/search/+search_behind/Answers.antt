@@ -1,7 +1,7 @@
 -- The steps of the search over fronts.
 use Rattle.std.proofs.Common.{◌≡◌, ◌-◌, ◌+◌, length, drop, ap, arith, sym, ◌∙◌, drop-drop}
 use Rattle.freq_partition.specs.Candidate.{division_in}
-use Rattle.freq_partition.proofs.Searched.{starts, none_in_front, goes_on, passes_over, ends}
+use Rattle.freq_partition.proofs.SearchLemmas.{starts, none_in_front, goes_on, passes_over, ends}
 use Rattle.freq_partition.proofs.search.+search_behind.Goals as goal
 use Rattle.freq_partition.proofs.search.+search_behind.Goals.{then-is_front, else-is_front}
 

@@ -2,7 +2,7 @@ use Rattle.std.proofs.Common.{◌≡◌, ◌-◌, ◌≤◌, length, drop}
 use Rattle.freq_partition.specs.Candidate.{division_in}
 use Rattle.freq_partition.specs.Division.{fronts}
 use Rattle.freq_partition.specs.Search.{best_among}
-use Rattle.freq_partition.proofs.Searched.{fronts_from}
+use Rattle.freq_partition.proofs.SearchLemmas.{fronts_from}
 use Rattle.freq_partition.proofs.search.+search_behind.Given as goal
 
 abbrev pub decreases-search_behind : goal.decreases-search_behind

@@ -1,7 +1,7 @@
 use Rattle.std.proofs.Common.{length, map, codes}
 use Rattle.std.specs.Fmt.{decimal}
 use Rattle.report_text.specs.Texts.{class_text, key_words, kind_text}
-use Rattle.report_text.proofs.Separated.{separated_parts}
+use Rattle.report_text.proofs.SeparatorLemmas.{separated_parts}
 use Rattle.report_text.proofs.layout.add_column.Goals as goal
 
 pub returns : goal.returns

@@ -1,5 +1,5 @@
 use Rattle.std.proofs.Common.{map, codes, append_assoc}
-use Rattle.report_text.proofs.Separated.{separated_first}
+use Rattle.report_text.proofs.SeparatorLemmas.{separated_first}
 use Rattle.report_text.proofs.words.add_line.Goals as goal
 
 pub returns : goal.returns

@@ -1,6 +1,6 @@
 use Rattle.std.proofs.Common.{◌∷◌, [], map, sym}
 use Rattle.std.specs.Fmt.{decimal}
-use Rattle.report_text.proofs.Separated.{separated_first}
+use Rattle.report_text.proofs.SeparatorLemmas.{separated_first}
 use Rattle.report_text.proofs.words.numbers_text.Goals as goal
 
 pub returns : goal.returns

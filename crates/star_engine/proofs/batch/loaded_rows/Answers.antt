@@ -1,4 +1,4 @@
-use Rattle.star_engine.proofs.Batched.{batch_fits}
+use Rattle.star_engine.proofs.LoadedRowsLemmas.{batch_fits}
 use Rattle.star_engine.proofs.batch.loaded_rows.Goals as goal
 
 pub returns-clause-fit : goal.returns-clause-fit

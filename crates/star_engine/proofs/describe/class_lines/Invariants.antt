@@ -1,5 +1,5 @@
 use Rattle.std.proofs.Common.{◌≡◌, take}
-use Rattle.star_engine.specs.Layouts.{class_lines}
+use Rattle.star_engine.specs.TableLayout.{class_lines}
 use Rattle.star_engine.proofs.describe.class_lines.Given as goal
 
 abbrev pub invariant-loop-class : goal.invariant-loop-class

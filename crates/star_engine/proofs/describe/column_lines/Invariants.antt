@@ -1,7 +1,7 @@
 use Rattle.std.proofs.Common.{◌≡◌, map, take}
 use Rattle.std.specs.List.{zip}
 use Rattle.blink_lists.specs.Lists.{numbered}
-use Rattle.star_engine.specs.Layouts.{column_line}
+use Rattle.star_engine.specs.TableLayout.{column_line}
 use Rattle.star_engine.proofs.describe.column_lines.Given as goal
 
 abbrev pub invariant-loop-at : goal.invariant-loop-at

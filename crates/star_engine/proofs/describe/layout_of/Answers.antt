@@ -1,7 +1,7 @@
 use Rattle.std.proofs.Common.{◌≡◌, map, ap, sym, ◌∙◌}
-use Rattle.star_engine.specs.Layouts.{column_lines}
+use Rattle.star_engine.specs.TableLayout.{column_lines}
 use Rattle.star_engine.specs.Lined.{line_kept}
-use Rattle.star_engine.proofs.Lining.{layout_kept}
+use Rattle.star_engine.proofs.TableLayoutLemmas.{layout_kept}
 use Rattle.star_engine.proofs.describe.layout_of.Goals as goal
 
 pub returns : goal.returns

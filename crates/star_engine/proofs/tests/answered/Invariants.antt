@@ -1,4 +1,4 @@
-use Rattle.star_engine.specs.Shown.{HasTables}
+use Rattle.star_engine.specs.EngineRepr.{HasTables}
 use Rattle.star_engine.proofs.tests.answered.Given as goal
 
 abbrev pub invariant-loop-place : goal.invariant-loop-place

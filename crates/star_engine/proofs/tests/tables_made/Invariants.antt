@@ -1,4 +1,4 @@
-use Rattle.star_engine.specs.Shown.{HasTables}
+use Rattle.star_engine.specs.EngineRepr.{HasTables}
 use Rattle.star_engine.proofs.tests.tables_made.Given as goal
 
 abbrev pub invariant-loop : goal.invariant-loop

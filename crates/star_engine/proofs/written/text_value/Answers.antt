@@ -1,6 +1,6 @@
 use Rattle.std.proofs.Common.{refl, length}
 use Rattle.std.proofs.lemmas.Bool.{le-leb}
-use Rattle.blink_base.proofs.Texts.{text_yes}
+use Rattle.blink_base.proofs.TextLemmas.{text_yes}
 use Rattle.star_engine.proofs.written.text_value.Goals as goal
 
 pub returns-clause-entry : goal.returns-clause-entry

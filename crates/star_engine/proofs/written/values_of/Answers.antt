@@ -1,5 +1,5 @@
 use Rattle.std.proofs.Common.{◌≡◌, ◌∙◌, [], ◌∷◌, Ok, length, refl, sym, ap, ◌<◌, arith, length-append}
-use Rattle.star_engine.proofs.Writing.{behind_none, no_entries, value_written, value_refused, values_written, entries_push}
+use Rattle.star_engine.proofs.InsertedRowsLemmas.{behind_none, no_entries, value_written, value_refused, values_written, entries_push}
 use Rattle.star_engine.proofs.written.values_of.Goals as goal
 
 pub loop-place-init : goal.loop-place-init

@@ -1,8 +1,8 @@
 use Rattle.std.proofs.Common.{◌≡◌, ◌+◌, drop, IsTrue}
 use Rattle.std.specs.List.{list_all}
-use Rattle.blink_base.specs.Fits.{fits}
-use Rattle.star_engine.specs.Written.{written_from}
-use Rattle.star_engine.proofs.Writing.{behind}
+use Rattle.blink_base.specs.RowFits.{fits}
+use Rattle.star_engine.specs.InsertedRows.{written_from}
+use Rattle.star_engine.proofs.InsertedRowsLemmas.{behind}
 use Rattle.star_engine.proofs.written.written_rows.Given as goal
 
 abbrev pub invariant-loop-place : goal.invariant-loop-place

@@ -1,6 +1,6 @@
 use Rattle.std.proofs.Common.{◌∙◌, ap, length, refl, arith}
 use Rattle.std.proofs.lemmas.List.{length-drop}
-use Rattle.star_lex.proofs.Cuts.{cut_end, cut_on, cut_all}
+use Rattle.star_lex.proofs.PieceLemmas.{cut_end, cut_on, cut_all}
 use Rattle.star_lex.proofs.cutting.pieces.Goals as goal
 
 pub loop-at-init : goal.loop-at-init

@@ -1,5 +1,5 @@
 use Rattle.std.proofs.Common.{◌≤◌, ◌-◌, length}
-use Rattle.star_lex.proofs.Cuts.{IsCutTo}
+use Rattle.star_lex.proofs.PieceLemmas.{IsCutTo}
 use Rattle.star_lex.proofs.cutting.pieces.Given as goal
 
 abbrev pub invariant-loop-at : goal.invariant-loop-at

@@ -1,4 +1,4 @@
-use Rattle.star_lex.proofs.Contents.{name_text}
+use Rattle.star_lex.proofs.ContentLemmas.{name_text}
 use Rattle.star_lex.proofs.kinds.name.Goals as goal
 
 pub unreachable-requires : goal.unreachable-requires

@@ -1,5 +1,5 @@
 use Rattle.std.proofs.Common.{◌≡◌, ◌-◌, ◌∙◌, length, arith}
-use Rattle.star_lex.proofs.Contents.{text_kept, text_refused}
+use Rattle.star_lex.proofs.ContentLemmas.{text_kept, text_refused}
 use Rattle.star_lex.proofs.kinds.text.Goals as goal
 
 pub returns-in-Some : goal.returns-in-Some

@@ -1,5 +1,5 @@
 use Rattle.std.proofs.Common.{append_assoc, refl}
-use Rattle.star_lex.proofs.Contents.{quote_kept, byte_kept}
+use Rattle.star_lex.proofs.ContentLemmas.{quote_kept, byte_kept}
 use Rattle.star_lex.proofs.kinds.unpaired.Goals as goal
 use Rattle.star_lex.proofs.kinds.unpaired.Goals.{then-byte-eq39, else-byte-eq39}
 

@@ -1,5 +1,5 @@
 use Rattle.std.proofs.Common.{refl}
-use Rattle.star_lex.proofs.Contents.{text_yes, text_no}
+use Rattle.star_lex.proofs.ContentLemmas.{text_yes, text_no}
 use Rattle.star_lex.proofs.kinds.word_of.Goals as goal
 
 pub returns-in_ok-from_str-in-Ok : goal.returns-in_ok-from_str-in-Ok

@@ -1,4 +1,4 @@
-use Rattle.star_lex.proofs.Closings.{read_none, read_byte, read_pair}
+use Rattle.star_lex.proofs.ClosingQuoteLemmas.{read_none, read_byte, read_pair}
 use Rattle.star_lex.proofs.lengths.closed_length.Goals as goal
 
 pub loop-at-init : goal.loop-at-init

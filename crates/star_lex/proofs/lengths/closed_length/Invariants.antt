@@ -1,5 +1,5 @@
 use Rattle.std.proofs.Common.{◌-◌, length}
-use Rattle.star_lex.proofs.Closings.{IsReadTo}
+use Rattle.star_lex.proofs.ClosingQuoteLemmas.{IsReadTo}
 use Rattle.star_lex.proofs.lengths.closed_length.Given as goal
 
 abbrev pub invariant-loop-at : goal.invariant-loop-at

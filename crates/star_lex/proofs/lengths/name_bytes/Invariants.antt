@@ -1,6 +1,6 @@
 use Rattle.std.proofs.Common.{◌≡◌, ◌+◌, drop}
 use Rattle.std.specs.List.{prefix_len}
-use Rattle.blink_base.specs.Words.{is_name_byte}
+use Rattle.blink_base.specs.Identifiers.{is_name_byte}
 use Rattle.star_lex.proofs.lengths.name_bytes.Given as goal
 
 abbrev pub invariant-loop-at : goal.invariant-loop-at

@@ -1,5 +1,5 @@
 use Rattle.std.proofs.Common.{◌∙◌, sym, refl}
-use Rattle.star_lex.proofs.Kept.{name_all, name_kept, number_all, number_some, number_kept, text_closed, text_open, other_kept}
+use Rattle.star_lex.proofs.TokenLemmas.{name_all, name_kept, number_all, number_some, number_kept, text_closed, text_open, other_kept}
 use Rattle.star_lex.proofs.reading.kept.Goals as goal
 
 pub name-requires : goal.name-requires

@@ -1,8 +1,8 @@
 use Rattle.std.proofs.Common.{◌∙◌, ap, length, arith, Some, None}
 use Rattle.std.proofs.lemmas.List.{length-drop}
 use Rattle.std.proofs.lemmas.Result.{err_from_is_err_and}
-use Rattle.star_lex.proofs.Lexings.{lexed_is_longest}
-use Rattle.star_lex.proofs.Progress.{lexed_none, lexed_on, lexed_fault, lexed_all, not_memory}
+use Rattle.star_lex.proofs.LexLemmas.{lexed_is_longest}
+use Rattle.star_lex.proofs.ProgressLemmas.{lexed_none, lexed_on, lexed_fault, lexed_all, not_memory}
 use Rattle.star_lex.proofs.reading.tokens.Goals as goal
 
 pub loop-at-init : goal.loop-at-init

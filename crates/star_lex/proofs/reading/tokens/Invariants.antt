@@ -1,5 +1,5 @@
 use Rattle.std.proofs.Common.{◌≤◌, ◌-◌, length}
-use Rattle.star_lex.proofs.Progress.{IsLexedTo}
+use Rattle.star_lex.proofs.ProgressLemmas.{IsLexedTo}
 use Rattle.star_lex.proofs.reading.tokens.Given as goal
 
 abbrev pub invariant-loop-at : goal.invariant-loop-at

@@ -1,10 +1,10 @@
 use Rattle.std.proofs.Common.{◌<◌, ◌≤◌, length, ap, arith}
 use Rattle.std.specs.Prelude.{codes}
 use Rattle.std.proofs.lemmas.Result.{err_from_is_err_and}
-use Rattle.star_sql.specs.Reading.{kinds_of}
-use Rattle.star_sql.specs.Fronts.{is_word, made_of, separated_at}
-use Rattle.star_sql.specs.ConditionFronts.{conj_of, cond_of, primary_at, conj_at, cond_at}
-use Rattle.star_sql.proofs.Loop.{fails_made, goes_on, ends, stops, is_done}
+use Rattle.star_sql.specs.ParseResult.{kinds_of}
+use Rattle.star_sql.specs.Parsers.{is_word, made_of, separated_at}
+use Rattle.star_sql.specs.ConditionParsers.{conj_of, cond_of, primary_at, conj_at, cond_at}
+use Rattle.star_sql.proofs.LoopLemmas.{fails_made, goes_on, ends, stops, is_done}
 use Rattle.star_sql.proofs.conditions.+condition.Goals as goal
 
 pub condition-returns-in_default : goal.condition-returns-in_default

@@ -1,9 +1,9 @@
 use Rattle.std.proofs.Common.{◌≡◌, ◌+◌, ◌-◌, ◌*◌}
 use Rattle.std.specs.Prelude.{codes}
-use Rattle.star_sql.specs.Reading.{kinds_of}
-use Rattle.star_sql.specs.Fronts.{is_word, more_at, separated_at}
-use Rattle.star_sql.specs.ConditionFronts.{primary_at, conj_at, cond_at}
-use Rattle.star_sql.proofs.Loop.{with_front}
+use Rattle.star_sql.specs.ParseResult.{kinds_of}
+use Rattle.star_sql.specs.Parsers.{is_word, more_at, separated_at}
+use Rattle.star_sql.specs.ConditionParsers.{primary_at, conj_at, cond_at}
+use Rattle.star_sql.proofs.LoopLemmas.{with_front}
 use Rattle.star_sql.proofs.conditions.+condition.Given as goal
 
 abbrev pub decreases-condition : goal.decreases-condition

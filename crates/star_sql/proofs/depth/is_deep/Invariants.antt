@@ -1,5 +1,5 @@
 use Rattle.std.proofs.Common.{◌≡◌, ◌+◌, ◌≤◌, length}
-use Rattle.star_sql.specs.Reading.{kinds_of, is_deep, is_deep_from}
+use Rattle.star_sql.specs.ParseResult.{kinds_of, is_deep, is_deep_from}
 use Rattle.star_sql.proofs.depth.is_deep.Given as goal
 
 abbrev pub invariant-loop-rest : goal.invariant-loop-rest

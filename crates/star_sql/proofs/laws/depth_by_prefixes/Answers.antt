@@ -1,4 +1,4 @@
-use Rattle.star_sql.proofs.Prefixes.{by_prefixes}
+use Rattle.star_sql.proofs.DepthLemmas.{by_prefixes}
 use Rattle.star_sql.proofs.laws.depth_by_prefixes.Goals as goal
 
 pub returns : goal.returns

@@ -1,4 +1,4 @@
-use Rattle.star_sql.proofs.Inverse.{spelled_once}
+use Rattle.star_sql.proofs.StatementLemmas.{spelled_once}
 use Rattle.star_sql.proofs.laws.one_spelling.Goals as goal
 
 pub returns : goal.returns

@@ -2,9 +2,9 @@ use Rattle.std.proofs.Common.{◌≡◌, ◌<◌, ◌≤◌, List, length, refl,
 use Rattle.std.proofs.lemmas.Result.{err_from_is_err_and}
 use Rattle.std.proofs.lemmas.List.{length-map}
 use Rattle.star_lex.specs.declared.token.Token.{Token}
-use Rattle.star_sql.specs.Reading.{kinds_of}
-use Rattle.star_sql.specs.Fronts.{is_comma}
-use Rattle.star_sql.proofs.Loop.{begins, goes_on, ends, stops, is_done}
+use Rattle.star_sql.specs.ParseResult.{kinds_of}
+use Rattle.star_sql.specs.Parsers.{is_comma}
+use Rattle.star_sql.proofs.LoopLemmas.{begins, goes_on, ends, stops, is_done}
 use Rattle.star_sql.proofs.lists.more.Goals as goal
 
 same_length : (tokens : List Token) → length (kinds_of tokens) ≡ length tokens

@@ -1,7 +1,7 @@
 use Rattle.std.proofs.Common.{◌≡◌, ◌-◌, length}
-use Rattle.star_sql.specs.Reading.{kinds_of}
-use Rattle.star_sql.specs.Fronts.{is_comma, with_first, more_at}
-use Rattle.star_sql.proofs.Loop.{with_front}
+use Rattle.star_sql.specs.ParseResult.{kinds_of}
+use Rattle.star_sql.specs.Parsers.{is_comma, with_first, more_at}
+use Rattle.star_sql.proofs.LoopLemmas.{with_front}
 use Rattle.star_sql.proofs.lists.more.Given as goal
 
 abbrev pub invariant-loop : goal.invariant-loop

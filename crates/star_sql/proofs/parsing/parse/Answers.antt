@@ -1,5 +1,5 @@
-use Rattle.star_sql.specs.Reading.{kinds_of}
-use Rattle.star_sql.proofs.Inverse.{gives_spelled, gives_no_statement}
+use Rattle.star_sql.specs.ParseResult.{kinds_of}
+use Rattle.star_sql.proofs.StatementLemmas.{gives_spelled, gives_no_statement}
 use Rattle.star_sql.proofs.parsing.parse.Goals as goal
 
 pub returns-clause-spelled : goal.returns-clause-spelled

@@ -1,7 +1,7 @@
 use Rattle.std.proofs.Common.{◌≡◌, ◌∙◌, ℕ, List, sym, ap, take, length, get_or, arith}
 use Rattle.std.proofs.lemmas.List.{take_more, length-take-le}
 use Rattle.bank_pack.specs.Banks.{BankColumns, banks_of, put_in_first}
-use Rattle.bank_pack.proofs.Filled.{banks-push}
+use Rattle.bank_pack.proofs.BankLemmas.{banks-push}
 use Rattle.bank_pack.proofs.plan.BankPlan.of.Goals as goal
 
 pub loop-at-preserved : goal.loop-at-preserved

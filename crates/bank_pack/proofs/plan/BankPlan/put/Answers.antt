@@ -2,7 +2,7 @@ use Rattle.std.proofs.Common.{◌≡◌, ◌<◌, ◌∙◌, List, ◌++◌, [],
 use Rattle.std.specs.List.{position_or_len}
 use Rattle.std.proofs.lemmas.List.{get_or_default}
 use Rattle.bank_pack.specs.Banks.{BankColumn, BankColumns, has_room, put_in_first}
-use Rattle.bank_pack.proofs.Filled.{put-found, put-new}
+use Rattle.bank_pack.proofs.BankLemmas.{put-found, put-new}
 use Rattle.bank_pack.proofs.plan.BankPlan.put.Goals as goal
 
 pub returns-in_ok-add : goal.returns-in_ok-add

@@ -1,7 +1,7 @@
 use Rattle.std.proofs.Common.{◌≡◌, ◌-◌, ◌∙◌, length, take, drop, refl, sym, ap, arith}
 use Rattle.std.proofs.lemmas.List.{length-append, length-take, length-drop, drop_all, take_all}
 use Rattle.blink_edge.specs.Memory.{Supply}
-use Rattle.blink_edge.proofs.Pieces.{piece_moved}
+use Rattle.blink_edge.proofs.PieceLemmas.{piece_moved}
 use Rattle.blink_edge.proofs.bytes_in.BytesInSource.take.Goals as goal
 
 pub returns-clause-bytes : goal.returns-clause-bytes

@@ -1,10 +1,10 @@
 use Rattle.std.proofs.Common.{◌≡◌, ◌∙◌, sym, ap, length, arith, ◌≤◌}
-use Rattle.blink_histogram.specs.Numbering.{numbered_values}
-use Rattle.blink_histogram.specs.Numbering.{counting, number_of}
+use Rattle.blink_histogram.specs.InternerRepr.{numbered_values}
+use Rattle.blink_histogram.specs.InternerRepr.{counting, number_of}
 use Rattle.std.proofs.Common.{subst}
 use Rattle.indexmap.specs.IndexMap.{insert_entry}
-use Rattle.blink_base.specs.Compared.{same_value}
-use Rattle.blink_histogram.proofs.Entries.{counted-counting, kept-counting, count-within, counting-adds, raised, added, old_place, new_place, numbered_there}
+use Rattle.blink_base.specs.Values.{same_value}
+use Rattle.blink_histogram.proofs.EntryLemmas.{counted-counting, kept-counting, count-within, counting-adds, raised, added, old_place, new_place, numbered_there}
 use Rattle.std.proofs.Common.{◌+◌, slice_get, Some}
 use Rattle.std.specs.Map.{keys_of}
 use Rattle.blink_histogram.proofs.interner.Interner.number.Goals as goal

@@ -1,6 +1,6 @@
 use Rattle.std.proofs.Common.{◌∙◌, ap, map, slice_get}
 use Rattle.blink_histogram.specs.declared.ranks.Ranking.{Ranking}
-use Rattle.blink_histogram.proofs.Sorting.{numbers_by_rank}
+use Rattle.blink_histogram.proofs.RankLemmas.{numbers_by_rank}
 use Rattle.blink_histogram.proofs.interner.Interner.ranked.Goals as goal
 
 pub returns : goal.returns

@@ -1,5 +1,5 @@
 use Rattle.blink_histogram.specs.declared.ranks.Ranking.{Ranking}
-use Rattle.blink_histogram.proofs.Sorting.{ranking_added}
+use Rattle.blink_histogram.proofs.RankLemmas.{ranking_added}
 use Rattle.blink_histogram.proofs.interner.Interner.rankings.Goals as goal
 
 pub loop-at-preserved : goal.loop-at-preserved

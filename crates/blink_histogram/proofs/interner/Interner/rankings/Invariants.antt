@@ -1,5 +1,5 @@
 use Rattle.std.proofs.Common.{◌≡◌, map, take, All}
-use Rattle.blink_histogram.specs.Rankings.{counted_in, HasPlace}
+use Rattle.blink_histogram.specs.RankEntry.{counted_in, HasPlace}
 use Rattle.blink_histogram.proofs.interner.Interner.rankings.Given as goal
 
 abbrev pub invariant-loop-at : goal.invariant-loop-at

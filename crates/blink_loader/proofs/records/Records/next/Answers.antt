@@ -1,7 +1,7 @@
 use Rattle.std.proofs.Common.{◌∙◌, sym}
 use Rattle.csv.specs.Records.{fields_of}
-use Rattle.blink_loader.specs.Left.{IsBetween}
-use Rattle.blink_loader.proofs.LeftFacts.{after_record, at_end}
+use Rattle.blink_loader.specs.RecordsLeft.{IsBetween}
+use Rattle.blink_loader.proofs.RecordsLeftLemmas.{after_record, at_end}
 use Rattle.blink_loader.proofs.records.Records.next.Goals as goal
 
 pub invariant_of-self : goal.invariant_of-self

@@ -1,5 +1,5 @@
 use Rattle.std.proofs.Common.{map, string_bytes}
-use Rattle.blink_run.proofs.Allowed.{options_allowed}
+use Rattle.blink_run.proofs.OptionLemmas.{options_allowed}
 use Rattle.blink_run.proofs.words.Request.run.Goals as goal
 
 pub returns-in-Some-clause-allowed : goal.returns-in-Some-clause-allowed

@@ -2,7 +2,7 @@ use Rattle.std.proofs.Common.{◌+◌, ◌++◌, None, ap, ◌∙◌, arith}
 use Rattle.std.proofs.lemmas.List.{length-append}
 use Rattle.std.proofs.lemmas.Result.{err_from_is_err_and}
 use Rattle.cell_layout.specs.Image.{TableImage, rows_of}
-use Rattle.cell_layout.specs.Kept.{image_kept}
+use Rattle.cell_layout.specs.CellRepr.{image_of}
 use Rattle.cell_layout.specs.Standing.{all_rows}
 use Rattle.cell_layout.proofs.Growing.{beyond, within, by_keys, may_lie, row_count_kept, rows_read, standing_placed, placed_apart, grown_kept, kept_grown, grown_valid, grown_rows}
 use Rattle.cell_layout.proofs.SameRoom.{same_image, same_kept}
@@ -76,7 +76,7 @@ returns-clause-valid g c =
     (ap (λ (i : TableImage). i.schema.key) c.self.view_is) held c.as_slice-4.ensures c.in_ok-kept_keys_apart.ensures.refused in
     let may = may_lie c.args.self.now c.args.batch.now c.args.limit c.requires.valid c.requires.fit few c.requires.limit none in
     let is = grown_kept c.args.self.now inside.schema inside.dicts inside.cells.0 c.add_placed.new.cells.0 inside.rest.0 c.add_placed.new.rest.0 c.args.batch.now c.self.view_is all in
-    grown_valid c.args.self.now (image_kept inside.schema inside.dicts c.add_placed.new.cells.0 c.add_placed.new.rest.0) c.args.batch.now c.requires.valid may is
+    grown_valid c.args.self.now (image_of inside.schema inside.dicts c.add_placed.new.cells.0 c.add_placed.new.rest.0) c.args.batch.now c.requires.valid may is
 
 pub returns-clause-rows : goal.returns-clause-rows
 returns-clause-rows g c =
@@ -90,7 +90,7 @@ returns-clause-rows g c =
     (ap (λ (i : TableImage). i.schema.key) c.self.view_is) held c.as_slice-4.ensures c.in_ok-kept_keys_apart.ensures.refused in
     let may = may_lie c.args.self.now c.args.batch.now c.args.limit c.requires.valid c.requires.fit few c.requires.limit none in
     let is = grown_kept c.args.self.now inside.schema inside.dicts inside.cells.0 c.add_placed.new.cells.0 inside.rest.0 c.add_placed.new.rest.0 c.args.batch.now c.self.view_is all in
-    grown_rows c.args.self.now (image_kept inside.schema inside.dicts c.add_placed.new.cells.0 c.add_placed.new.rest.0) c.args.batch.now c.requires.valid may is
+    grown_rows c.args.self.now (image_of inside.schema inside.dicts c.add_placed.new.cells.0 c.add_placed.new.rest.0) c.args.batch.now c.requires.valid may is
 
 pub returns-clause-refused : goal.returns-clause-refused
 returns-clause-refused g c =

@@ -1,7 +1,7 @@
 use Rattle.std.proofs.Common.{sum_by, arith, ap, sym, ◌∙◌}
 use Rattle.std.proofs.lemmas.List.{take_all}
 use Rattle.cell_layout.specs.Blocks.{blocks}
-use Rattle.cell_layout.specs.Kept.{IsKeptCell}
+use Rattle.cell_layout.specs.CellRepr.{IsCellRepr}
 use Rattle.cell_layout.proofs.KeptRows.{item_of, rows_within}
 use Rattle.cell_layout.proofs.BlockCounts.{plan_few, blocks_kept, blocks_in}
 use Rattle.cell_layout.proofs.image.Image.blocks.Goals as goal
@@ -9,7 +9,7 @@ use Rattle.cell_layout.proofs.image.Image.blocks.Goals as goal
 pub blocks-blocks-requires-clause-banks : goal.blocks-blocks-requires-clause-banks
 blocks-blocks-requires-clause-banks g c =
     plan_few c.self.inside.dicts c.cell-item.result
-    (item_of (IsKeptCell c.self.inside.dicts) c.as_slice-cell-items.result.now c.self.inside.cells.0 c.loop-cell.cell-index c.cell-item.result c.self.invariant.kept c.as_slice-cell-items.ensures c.cell-item.is c.loop-cell-test.true)
+    (item_of (IsCellRepr c.self.inside.dicts) c.as_slice-cell-items.result.now c.self.inside.cells.0 c.loop-cell.cell-index c.cell-item.result c.self.invariant.kept c.as_slice-cell-items.ensures c.cell-item.is c.loop-cell-test.true)
     c.self.invariant.few
 
 pub blocks-blocks-requires-clause-rows : goal.blocks-blocks-requires-clause-rows

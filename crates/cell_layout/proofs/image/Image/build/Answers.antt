@@ -1,5 +1,5 @@
 use Rattle.std.proofs.Common.{ap, ◌∙◌}
-use Rattle.cell_layout.specs.Laid.{laid}
+use Rattle.cell_layout.specs.Layout.{laid}
 use Rattle.cell_layout.proofs.Laying.{laid_valid, laid_rows}
 use Rattle.cell_layout.proofs.image.Image.build.Goals as goal
 

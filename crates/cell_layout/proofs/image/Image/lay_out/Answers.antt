@@ -1,6 +1,6 @@
 use Rattle.std.proofs.Common.{◌+◌, ◌++◌, subst, length, ap, ◌∙◌, sym, arith}
 use Rattle.std.proofs.lemmas.List.{length-append}
-use Rattle.cell_layout.specs.Placed.{ArePlaced}
+use Rattle.cell_layout.specs.RowPartition.{ArePlaced}
 use Rattle.cell_layout.proofs.Dividing.{length-divided}
 use Rattle.cell_layout.proofs.Laying.{kept_placed}
 use Rattle.cell_layout.proofs.image.Image.lay_out.Goals as goal

@@ -1,7 +1,7 @@
 use Rattle.std.proofs.Common.{◌++◌, None, ap, ◌∙◌, length, arith}
 use Rattle.std.proofs.lemmas.Result.{err_from_is_err_and}
 use Rattle.cell_layout.specs.Image.{TableImage, rows_of}
-use Rattle.cell_layout.specs.Laid.{laid}
+use Rattle.cell_layout.specs.Layout.{laid}
 use Rattle.cell_layout.proofs.Fitting.{valid_fits, fits_long}
 use Rattle.cell_layout.proofs.Growing.{beyond, within, by_keys, may_lie, keys_within}
 use Rattle.cell_layout.proofs.Laying.{laid_valid, laid_rows}

@@ -1,7 +1,7 @@
 use Rattle.std.proofs.Common.{◌≡◌, IfOk, List, length, arith, ap, subst}
-use Rattle.order_codes.specs.Places.{Classes}
+use Rattle.order_codes.specs.Dictionary.{Classes}
 use Rattle.cell_layout.specs.Image.{TableImage, decoded_row}
-use Rattle.cell_layout.specs.Kept.{row_kept}
+use Rattle.cell_layout.specs.CellRepr.{row_of_codes}
 use Rattle.cell_layout.proofs.KeptRows.{row_in_cell, row_in_rest, copied_row}
 use Rattle.cell_layout.proofs.image.Image.row.Goals as goal
 
@@ -10,7 +10,7 @@ returns-then-left-cell-clause-row g c =
     let inside = c.self.inside in
     row_in_cell c.args.self.now inside.schema inside.dicts inside.cells.0 c.as_slice-cell-items.result.now inside.rest.0 c.loop-cell.cell-index c.loop-cell.left c.args.number c.cell-item.result c.decoded.result
     c.self.view_is c.as_slice-cell-items.ensures c.cell-item.is c.loop-cell-test.true c.if-left-cell.true c.loop-cell.invariant.place
-    (subst (λ (dicts : List Classes). IfOk c.decoded.result (λ values. values ≡ decoded_row dicts c.cell-item.result.classes (row_kept c.cell-item.result.codes c.loop-cell.left))) c.as_slice.ensures c.decoded.ensures.row)
+    (subst (λ (dicts : List Classes). IfOk c.decoded.result (λ values. values ≡ decoded_row dicts c.cell-item.result.classes (row_of_codes c.cell-item.result.codes c.loop-cell.left))) c.as_slice.ensures c.decoded.ensures.row)
 
 pub returns-then-left-cell-clause-decodes : goal.returns-then-left-cell-clause-decodes
 returns-then-left-cell-clause-decodes g c =

@@ -1,6 +1,6 @@
 use Rattle.std.proofs.Common.{◌∙◌, ap, is_some, IsTrue}
 use Rattle.masked_compare.specs.Fields.{is_shape, lane_holding}
-use Rattle.masked_compare.proofs.Kept.{kept_good}
+use Rattle.masked_compare.proofs.ShapeLemmas.{kept_good}
 use Rattle.masked_compare.proofs.shape.Shape.new.Goals as goal
 
 pub invariant_of-result : goal.invariant_of-result

@@ -1,5 +1,5 @@
 use Rattle.std.proofs.Common.{true≢false, sym}
-use Rattle.masked_compare.proofs.Kept.{full_shape}
+use Rattle.masked_compare.proofs.ShapeLemmas.{full_shape}
 use Rattle.masked_compare.proofs.shape.Shape.with.Goals as goal
 
 pub returns-then-self-ge16-clause-some : goal.returns-then-self-ge16-clause-some

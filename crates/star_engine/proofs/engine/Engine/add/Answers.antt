@@ -1,9 +1,9 @@
 use Rattle.std.proofs.Common.{sym}
 use Rattle.std.proofs.lemmas.Result.{err_from_is_err_and}
 use Rattle.blink_base.specs.declared.refusal.Refusal.TheVariants as refusal
-use Rattle.star_engine.specs.Batches.{batch_in}
-use Rattle.star_engine.proofs.Refused.{cause_from}
-use Rattle.star_engine.proofs.Steps.{no_add, unread_there, refused_there, made_there, sound_made_with, valid_at, keyless_at}
+use Rattle.star_engine.specs.LoadedRows.{batch_in}
+use Rattle.star_engine.proofs.RefusalLemmas.{cause_from}
+use Rattle.star_engine.proofs.StepLemmas.{no_add, unread_there, refused_there, made_there, sound_made_with, valid_at, keyless_at}
 use Rattle.star_engine.proofs.engine.Engine.add.Goals as goal
 
 pub rows_at-requires-clause-valid : goal.rows_at-requires-clause-valid

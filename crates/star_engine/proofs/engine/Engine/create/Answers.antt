@@ -1,14 +1,14 @@
 use Rattle.std.proofs.Common.{◌∙◌, [], ◌∷◌, ◌++◌, sym, ap, true, false, is_some, arith}
 use Rattle.std.proofs.lemmas.Bool.{and_parts}
 use Rattle.blink_base.specs.declared.refusal.Refusal.TheVariants as refusal
-use Rattle.blink_base.specs.Words.{is_name}
-use Rattle.cell_layout.specs.Laid.{empty_image}
-use Rattle.cell_layout.specs.Valid.{is_schema}
+use Rattle.blink_base.specs.Identifiers.{is_name}
+use Rattle.cell_layout.specs.Layout.{empty_image}
+use Rattle.blink_base.specs.RowFits.{is_schema}
 use Rattle.star_sql.specs.WellFormed.{some_and_all, is_definition}
 use Rattle.star_engine.specs.Changes.{are_bad_columns, schema_of}
-use Rattle.star_engine.proofs.Columned.{made_schema}
-use Rattle.star_engine.proofs.Refused.{cause_from}
-use Rattle.star_engine.proofs.Steps.{there, create_exists, create_bad, create_full, create_made, is_full, sound_made}
+use Rattle.star_engine.proofs.SchemaLemmas.{made_schema}
+use Rattle.star_engine.proofs.RefusalLemmas.{cause_from}
+use Rattle.star_engine.proofs.StepLemmas.{there, create_exists, create_bad, create_full, create_made, is_full, sound_made}
 use Rattle.star_engine.proofs.engine.Engine.create.Goals as goal
 
 pub returns-then-is_some-clause-step : goal.returns-then-is_some-clause-step

@@ -1,7 +1,7 @@
 use Rattle.std.proofs.Common.{sym}
 use Rattle.blink_base.specs.declared.refusal.Refusal.TheVariants as refusal
-use Rattle.star_engine.proofs.Refused.{cause_from}
-use Rattle.star_engine.proofs.Steps.{no_drop, taken_there, sound_made}
+use Rattle.star_engine.proofs.RefusalLemmas.{cause_from}
+use Rattle.star_engine.proofs.StepLemmas.{no_drop, taken_there, sound_made}
 use Rattle.star_engine.proofs.engine.Engine.drop_table.Goals as goal
 
 pub returns-in-Some-clause-step : goal.returns-in-Some-clause-step

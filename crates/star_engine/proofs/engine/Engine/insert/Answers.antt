@@ -1,6 +1,6 @@
 use Rattle.std.proofs.lemmas.Bool.{and_parts}
-use Rattle.blink_base.specs.Words.{is_name}
-use Rattle.star_engine.specs.Batches.{are_written}
+use Rattle.blink_base.specs.Identifiers.{is_name}
+use Rattle.star_engine.specs.LoadedRows.{are_written}
 use Rattle.star_engine.proofs.engine.Engine.insert.Goals as goal
 
 pub add-requires-clause-good : goal.add-requires-clause-good

@@ -1,8 +1,8 @@
 use Rattle.std.proofs.Common.{sym}
 use Rattle.std.proofs.lemmas.Result.{err_from_is_err_and}
 use Rattle.blink_base.specs.declared.refusal.Refusal.TheVariants as refusal
-use Rattle.star_engine.proofs.Refused.{cause_from}
-use Rattle.star_engine.proofs.Steps.{no_order, never_there, remade_there, sound_made, valid_at}
+use Rattle.star_engine.proofs.RefusalLemmas.{cause_from}
+use Rattle.star_engine.proofs.StepLemmas.{no_order, never_there, remade_there, sound_made, valid_at}
 use Rattle.star_engine.proofs.engine.Engine.reorganize.Goals as goal
 
 pub add_at-requires-clause-valid : goal.add_at-requires-clause-valid

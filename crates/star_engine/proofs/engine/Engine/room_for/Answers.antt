@@ -1,7 +1,7 @@
 use Rattle.std.proofs.Common.{◌∙◌, ap, true, false, is_some, arith}
 use Rattle.blink_base.specs.declared.refusal.Refusal.TheVariants as refusal
-use Rattle.star_engine.proofs.Refused.{cause_from}
-use Rattle.star_engine.proofs.Steps.{there, room_exists, room_full, room_there, is_full, has_room}
+use Rattle.star_engine.proofs.RefusalLemmas.{cause_from}
+use Rattle.star_engine.proofs.StepLemmas.{there, room_exists, room_full, room_there, is_full, has_room}
 use Rattle.star_engine.proofs.engine.Engine.room_for.Goals as goal
 
 pub returns-then-is_some : goal.returns-then-is_some

@@ -1,7 +1,0 @@
-use Rattle.std.proofs.Common.{◌≡◌, ◌≤◌, take}
-use Rattle.freq_partition.specs.Saved.{saved_in}
-use Rattle.freq_partition.proofs.Greatest.{savers_from}
-use Rattle.freq_partition.proofs.saving.greatest_of.Given as goal
-
-abbrev pub invariant-loop-column : goal.invariant-loop-column
-invariant-loop-column l = (saved_in l.greatest ≡ take 3 (savers_from l.column l.savings)) × (l.greatest.count ≤ 3)
