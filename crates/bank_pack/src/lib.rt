@@ -6,6 +6,3 @@ mod plan;
 mod planned_bank;
 
 pub use plan::BankPlan;
-
-#[cfg(test)]
-mod tests;

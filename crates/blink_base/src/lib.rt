@@ -40,6 +40,3 @@ pub use test::Test;
 pub use tree::Tree;
 pub use value::{Kind, Row, Value, ValueFault};
 pub use word::Word;
-
-#[cfg(test)]
-mod tests;

@@ -6,6 +6,3 @@ mod interner;
 mod ranks;
 
 pub use interner::Interner;
-
-#[cfg(test)]
-mod tests;

@@ -8,6 +8,3 @@ mod records;
 
 pub use batch::{LoadFault, load};
 pub use column_count::{RangeFault, range_count};
-
-#[cfg(test)]
-mod tests;

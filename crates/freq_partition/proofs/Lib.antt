@@ -2,7 +2,6 @@ pub mod BestLemmas
 pub mod ColumnChoiceLemmas
 pub mod FillLemmas
 pub mod LeastCostLemmas
-pub mod Ones
 pub mod PaddingLemmas
 pub mod PowerLemmas
 pub mod PrefixSumLemmas

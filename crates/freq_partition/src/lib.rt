@@ -17,6 +17,3 @@ mod top_three;
 pub use best_cut::Cut;
 pub use column_choice::{Chosen, choose_columns};
 pub use division::{cut, single};
-
-#[cfg(test)]
-mod tests;

@@ -5,6 +5,3 @@ pub mod examples;
 mod shape;
 
 pub use shape::Shape;
-
-#[cfg(test)]
-mod tests;

@@ -12,6 +12,3 @@ pub use changes::{added_text, created_text, dropped_text, reorganized_text};
 pub use layout::layout_text;
 pub use lines::{CellLine, ClassLine, ColumnLine, LayoutLines};
 pub use refusals::refusal_text;
-
-#[cfg(test)]
-mod tests;

@@ -1,5 +1,6 @@
-use super::*;
+// CSV texts as the rows of a table.
 use blink_base::{Column, Kind, List, Row, Schema, Value, ValueFault, Word};
+use blink_loader::{LoadFault, load};
 use std::alloc::{AllocError, Global};
 use std::test::Fail;
 
@@ -83,20 +84,24 @@ fn shown(alloc: Global, rows: &List<Row>) -> Result<String, AllocError> {
     Ok(text)
 }
 
-#[test]
-fn texts_are_loaded(rt: HostRuntime) -> Result<(), Fail> {
-    let alloc = rt.alloc();
+// The rows of a text for the columns a, B and c, one of each kind, shown; or its fault.
+fn loaded(alloc: Global, text: &[u8]) -> Result<Result<String, LoadFault>, AllocError> {
     let mut columns = List::new(alloc);
     columns.push(column(alloc, "a", Kind::Int)?)?;
     columns.push(column(alloc, "B", Kind::Text)?)?;
     columns.push(column(alloc, "c", Kind::Date)?)?;
     let schema = Schema { columns, key: None };
+    match load(alloc, &schema, text) {
+        Ok(rows) => Ok(Ok(shown(alloc, &rows)?)),
+        Err(fault) => Ok(Err(fault)),
+    }
+}
+
+#[test]
+fn texts_are_loaded(rt: HostRuntime) -> Result<(), Fail> {
     for (text, wanted) in &CASES {
-        match load(alloc, &schema, text) {
-            Ok(rows) => {
-                let line = shown(alloc, &rows)?;
-                assert_eq!(rt; *wanted, Ok(line.as_str()));
-            }
+        match loaded(rt.alloc(), text)? {
+            Ok(rows) => assert_eq!(rt; *wanted, Ok(rows.as_str())),
             Err(fault) => assert_eq!(rt; *wanted, Err(fault)),
         }
     }

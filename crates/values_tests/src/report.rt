@@ -1,21 +1,32 @@
-use super::*;
+// The printed lines.
 use blink_base::{Kind, List, Refusal, Word};
+use report_text::{
+    CellLine, ClassLine, ColumnLine, LayoutLines, added_text, created_text, dropped_text,
+    layout_text, refusal_text, reorganized_text,
+};
 use std::alloc::{AllocError, Global};
 use std::test::Fail;
 
+// The line of a refusal by its number.
+fn refusal_line(alloc: Global, number: u8) -> Result<List<u8>, AllocError> {
+    match number {
+        0 => refusal_text(
+            alloc,
+            &Refusal::UnknownColumn(Word::from_str(alloc, "t.a")?),
+        ),
+        _ => refusal_text(alloc, &Refusal::BadValue { at: 12, field: 3 }),
+    }
+}
+
 #[test]
 fn refusals_are_printed(rt: HostRuntime) -> Result<(), Fail> {
-    let alloc = rt.alloc();
-    let column = Refusal::UnknownColumn(Word::from_str(alloc, "t.a")?);
-    assert_eq!(rt;
-        refusal_text(alloc, &column)?.as_slice(),
-        b"refused: unknown column t.a\n".as_slice()
-    );
-    let value = Refusal::BadValue { at: 12, field: 3 };
-    assert_eq!(rt;
-        refusal_text(alloc, &value)?.as_slice(),
-        b"refused: bad value 12 3\n".as_slice()
-    );
+    let rows: [(u8, &[u8]); 2] = [
+        (0, b"refused: unknown column t.a\n"),
+        (1, b"refused: bad value 12 3\n"),
+    ];
+    for (number, line) in rows {
+        assert_eq!(rt; refusal_line(rt.alloc(), number)?.as_slice(), line);
+    }
     Ok(())
 }
 
@@ -75,39 +86,41 @@ fn layout(alloc: Global) -> Result<LayoutLines, AllocError> {
 
 #[test]
 fn layouts_are_printed(rt: HostRuntime) -> Result<(), Fail> {
-    let alloc = rt.alloc();
     let text = "table sales rows 1142 blocks 3\n\
         column year int classes 2 1:2 12:4000 key\n\
         column town text classes 1 3:8\n\
         cell 0.0 rows 110 pages 1 banks 8,16\n\
         cell 1.0 rows 18446744073709551615 pages 30 banks 16\n\
         rest 2\n";
+    let lines = layout(rt.alloc())?;
     assert_eq!(rt;
-        layout_text(alloc, &layout(alloc)?)?.as_slice(),
+        layout_text(rt.alloc(), &lines)?.as_slice(),
         text.as_bytes()
     );
     Ok(())
 }
 
+// The line of a change by its number.
+fn change_line(alloc: Global, number: u8) -> Result<List<u8>, AllocError> {
+    let name = Word::from_str(alloc, "t")?;
+    match number {
+        0 => created_text(alloc, &name),
+        1 => dropped_text(alloc, &name),
+        2 => reorganized_text(alloc, &name),
+        _ => added_text(alloc, 140),
+    }
+}
+
 #[test]
 fn changes_are_printed(rt: HostRuntime) -> Result<(), Fail> {
-    let alloc = rt.alloc();
-    let name = Word::from_str(alloc, "t")?;
-    assert_eq!(rt;
-        created_text(alloc, &name)?.as_slice(),
-        b"created t\n".as_slice()
-    );
-    assert_eq!(rt;
-        dropped_text(alloc, &name)?.as_slice(),
-        b"dropped t\n".as_slice()
-    );
-    assert_eq!(rt;
-        reorganized_text(alloc, &name)?.as_slice(),
-        b"reorganized t\n".as_slice()
-    );
-    assert_eq!(rt;
-        added_text(alloc, 140)?.as_slice(),
-        b"added 140\n".as_slice()
-    );
+    let rows: [(u8, &[u8]); 4] = [
+        (0, b"created t\n"),
+        (1, b"dropped t\n"),
+        (2, b"reorganized t\n"),
+        (3, b"added 140\n"),
+    ];
+    for (number, line) in rows {
+        assert_eq!(rt; change_line(rt.alloc(), number)?.as_slice(), line);
+    }
     Ok(())
 }
