@@ -1,9 +1,57 @@
-use super::*;
-use crate::select_tests::select_line;
+// Statements as their tokens say them.
+use crate::select::select_line;
 use blink_base::List;
 use star_lex::{Token, tokens};
+use star_sql::{Literal, Statement, parse};
 use std::alloc::{AllocError, Global};
 use std::test::Fail;
+
+// Texts, each with the statement that it says, or with why it says none.
+const STATEMENTS: [(&str, &str); 31] = [
+    (
+        "CREATE TABLE date (date DATE)",
+        "create date date Date false",
+    ),
+    (
+        "create Table T (a int primary KEY, table text)",
+        "create t a Int true table Text false",
+    ),
+    ("CREATE TABLE t ()", "Syntax"),
+    ("CREATE TABLE t (a PRIMARY KEY INT)", "Syntax"),
+    ("CREATE TABLE t (a INT PRIMARY)", "Syntax"),
+    ("CREATE TABLE t (a INT,)", "Syntax"),
+    ("DROP TABLE table", "drop table"),
+    ("DROP TABLE order", "Syntax"),
+    ("DROP TABLE t t", "Syntax"),
+    ("LOAD INTO t FROM 'a.csv'", "load t a.csv"),
+    ("append into t from ''", "append t "),
+    ("LOAD INTO t FROM a", "Syntax"),
+    ("REORGANIZE TABLE t", "reorganize t"),
+    ("DESCRIBE date", "describe date"),
+    ("EXPORT TABLE t TO 'f'", "export t f"),
+    ("IMPORT TABLE t FROM 'f'", "import t f"),
+    ("IMPORT TABLE t TO 'f'", "Syntax"),
+    (
+        "INSERT INTO t VALUES (1, - 2, 'x', DATE '1999-01-01')",
+        "insert t false 1 true 2 'x' date '1999-01-01';",
+    ),
+    (
+        "INSERT INTO t VALUES (-0), ('it''s')",
+        "insert t true 0; 'it's';",
+    ),
+    ("INSERT INTO t VALUES ()", "Syntax"),
+    ("INSERT INTO t VALUES", "Syntax"),
+    ("INSERT INTO t VALUES (1) (2)", "Syntax"),
+    ("INSERT INTO t VALUES (1),", "Syntax"),
+    ("INSERT INTO t VALUES (+ 1)", "Syntax"),
+    ("INSERT INTO t VALUES (- - 1)", "Syntax"),
+    ("INSERT INTO t VALUES (x '1')", "Syntax"),
+    ("", "Syntax"),
+    ("((((((((((((((((((((((((((((((((", "Syntax"),
+    ("(((((((((((((((((((((((((((((((((", "Deep"),
+    (")(((((((((((((((((((((((((((((((((", "Syntax"),
+    ("((((((((((((((((((((((((((((((((())", "Deep"),
+];
 
 // The literals of a row.
 fn push_row(alloc: Global, line: &mut String, row: &[Literal]) -> Result<(), AllocError> {
@@ -99,53 +147,8 @@ fn rows_read(alloc: Global, text: &str) -> Result<usize, AllocError> {
 
 #[test]
 fn statements_are_read(rt: HostRuntime) -> Result<(), Fail> {
-    let alloc = rt.alloc();
-    for (text, want) in [
-        (
-            "CREATE TABLE date (date DATE)",
-            "create date date Date false",
-        ),
-        (
-            "create Table T (a int primary KEY, table text)",
-            "create t a Int true table Text false",
-        ),
-        ("CREATE TABLE t ()", "Syntax"),
-        ("CREATE TABLE t (a PRIMARY KEY INT)", "Syntax"),
-        ("CREATE TABLE t (a INT PRIMARY)", "Syntax"),
-        ("CREATE TABLE t (a INT,)", "Syntax"),
-        ("DROP TABLE table", "drop table"),
-        ("DROP TABLE order", "Syntax"),
-        ("DROP TABLE t t", "Syntax"),
-        ("LOAD INTO t FROM 'a.csv'", "load t a.csv"),
-        ("append into t from ''", "append t "),
-        ("LOAD INTO t FROM a", "Syntax"),
-        ("REORGANIZE TABLE t", "reorganize t"),
-        ("DESCRIBE date", "describe date"),
-        ("EXPORT TABLE t TO 'f'", "export t f"),
-        ("IMPORT TABLE t FROM 'f'", "import t f"),
-        ("IMPORT TABLE t TO 'f'", "Syntax"),
-        (
-            "INSERT INTO t VALUES (1, - 2, 'x', DATE '1999-01-01')",
-            "insert t false 1 true 2 'x' date '1999-01-01';",
-        ),
-        (
-            "INSERT INTO t VALUES (-0), ('it''s')",
-            "insert t true 0; 'it's';",
-        ),
-        ("INSERT INTO t VALUES ()", "Syntax"),
-        ("INSERT INTO t VALUES", "Syntax"),
-        ("INSERT INTO t VALUES (1) (2)", "Syntax"),
-        ("INSERT INTO t VALUES (1),", "Syntax"),
-        ("INSERT INTO t VALUES (+ 1)", "Syntax"),
-        ("INSERT INTO t VALUES (- - 1)", "Syntax"),
-        ("INSERT INTO t VALUES (x '1')", "Syntax"),
-        ("", "Syntax"),
-        ("((((((((((((((((((((((((((((((((", "Syntax"),
-        ("(((((((((((((((((((((((((((((((((", "Deep"),
-        (")(((((((((((((((((((((((((((((((((", "Syntax"),
-        ("((((((((((((((((((((((((((((((((())", "Deep"),
-    ] {
-        let line = shown(alloc, text)?;
+    for (text, want) in STATEMENTS {
+        let line = shown(rt.alloc(), text)?;
         assert_eq!(rt; line.as_str(), want, "where {want} is wanted");
     }
     Ok(())

@@ -1,6 +1,6 @@
 use Rattle.star_sql.specs.ParseResult.{kinds_of}
 use Rattle.star_sql.proofs.StatementLemmas.{gives_spelled, gives_no_statement}
-use Rattle.star_sql.proofs.parsing.parse.Goals as goal
+use Rattle.star_sql.proofs.whole_statement.parse.Goals as goal
 
 pub returns-clause-spelled : goal.returns-clause-spelled
 returns-clause-spelled c = gives_spelled (kinds_of c.args.tokens.now) c.whole.result (rw c.as_slice-2.ensures at c.whole.ensures)

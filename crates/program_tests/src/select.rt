@@ -1,6 +1,9 @@
-use super::*;
-use crate::tests::{shown, tokens_of};
+// SELECT as its tokens say it.
+use crate::sql::{shown, tokens_of};
 use blink_base::Word;
+use star_sql::{
+    ColumnName, Cond, Expr, Item, Literal, OrderKey, Primary, Select, Statement, TestWords, What, parse,
+};
 use std::alloc::{AllocError, Global};
 use std::test::Fail;
 
@@ -327,10 +330,9 @@ fn primaries_read(alloc: Global, text: &str) -> Result<usize, AllocError> {
 
 #[test]
 fn selects_are_read(rt: HostRuntime) -> Result<(), Fail> {
-    let alloc = rt.alloc();
     for row in SELECTS.lines() {
         let (text, want) = row.split_once(" => ").unwrap_or((row, "Syntax"));
-        let line = shown(alloc, text)?;
+        let line = shown(rt.alloc(), text)?;
         assert_eq!(rt; line.as_str(), want, "at {text}");
     }
     Ok(())
