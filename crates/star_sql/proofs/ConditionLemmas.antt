@@ -12,13 +12,12 @@ use Rattle.star_sql.specs.declared.ast.Conj.{Conj}
 use Rattle.star_sql.specs.declared.ast.Cond.{Cond}
 use Rattle.star_sql.specs.Spelling.{Spelled, name_of, mark_of, in_parentheses, test_spelled, cond_spelled}
 use Rattle.star_sql.specs.WellFormed.{some_and_all, is_test, is_condition}
-use Rattle.star_sql.specs.ParseResult.{opens}
 use Rattle.star_sql.specs.Conditions.{of_cond}
-use Rattle.star_sql.specs.Parsers.{cases_of, is_word, behind, made_of, inside_at}
+use Rattle.star_sql.specs.Parsers.{cases_of, is_word, behind, made_of, inside_at, is_mark}
 use Rattle.star_sql.specs.PredicateParsers.{test_at}
 use Rattle.star_sql.specs.ConditionParsers.{conj_of, cond_of, primary_at, conj_at, cond_at, condition_at}
 use Rattle.star_sql.proofs.StepLemmas.{bind_some, cased, some_is}
-use Rattle.star_sql.proofs.TokenLemmas.{Reads, none_further, never_behind, word_is}
+use Rattle.star_sql.proofs.TokenLemmas.{Parses, none_further, never_behind, word_is}
 use Rattle.star_sql.proofs.MemberTestLemmas.{some_mapped, some_alike, some_imply, some_short}
 use Rattle.star_sql.proofs.SequenceLemmas.{Marks, sequences}
 use Rattle.star_sql.proofs.CombinatorLemmas.{insides, made}
@@ -111,8 +110,8 @@ conj_goes_on t = is_word (codes "and") t || goes_on t
 abbrev pub cond_goes_on : TokenKind → Bool
 cond_goes_on t = is_word (codes "or") t || conj_goes_on t
 
-module _ (n : ℕ) (inner : Reads (cond_at n) cond_spelled (λ c. is_within c n) cond_goes_on) where
-  group : Reads (inside_at (cond_at n)) (λ (c : Cond). in_parentheses (cond_spelled c)) (λ c. is_within c n) none_further
+module _ (n : ℕ) (inner : Parses (cond_at n) cond_spelled (λ c. is_within c n) cond_goes_on) where
+  group : Parses (inside_at (cond_at n)) (λ (c : Cond). in_parentheses (cond_spelled c)) (λ c. is_within c n) none_further
   group = insides inner refl
 
   abbrev TakesPrimary : Spelled → Primary × Spelled → Type 0
@@ -121,7 +120,7 @@ module _ (n : ℕ) (inner : Reads (cond_at n) cond_spelled (λ c. is_within c n)
   primary_takes : (ts : Spelled) (x : Primary × Spelled) → primary_at (cond_at n) ts ≡ Some x → TakesPrimary ts x
   unfolding primary_at
   primary_takes ts x e =
-      elim (cased (behind opens ts) (made_of Test (test_at ts)) (λ rest. made_of Group (inside_at (cond_at n) ts)) (Some x) e) [
+      elim (cased (behind (is_mark mark.Left) ts) (made_of Test (test_at ts)) (λ rest. made_of Group (inside_at (cond_at n) ts)) (Some x) e) [
         | inl p ↦
             let a = bind_some (test_at ts) (λ t. Some (Test t.0, t.1)) x p.1 in
             subst (TakesPrimary ts) (some_is (Test a.0.0, a.0.1) x a.2) (tests.takes ts a.0 a.1)
@@ -131,11 +130,11 @@ module _ (n : ℕ) (inner : Reads (cond_at n) cond_spelled (λ c. is_within c n)
             subst (TakesPrimary ts) (some_is (Group a.0.0, a.0.1) x a.2) (within_group a.0.0 n ∙ t.0, t.1 ∙ ap (λ (s : Spelled). s ++ a.0.1) (sym (spelled_group a.0.0)))
       ]
 
-  group_opened : (s rest : Spelled) → behind opens (in_parentheses s ++ rest) ≡ Some ((s ++ mark_of mark.Right) ++ rest)
+  group_opened : (s rest : Spelled) → behind (is_mark mark.Left) (in_parentheses s ++ rest) ≡ Some ((s ++ mark_of mark.Right) ++ rest)
   unfolding behind
   group_opened s rest = refl
 
-  group_read : (ts behind_left : Spelled) (c : Cond) (rest : Spelled) → behind opens ts ≡ Some behind_left → inside_at (cond_at n) ts ≡ Some (c, rest) → primary_at (cond_at n) ts ≡ Some (Group c, rest)
+  group_read : (ts behind_left : Spelled) (c : Cond) (rest : Spelled) → behind (is_mark mark.Left) ts ≡ Some behind_left → inside_at (cond_at n) ts ≡ Some (c, rest) → primary_at (cond_at n) ts ≡ Some (Group c, rest)
   unfolding primary_at
   group_read ts behind_left c rest opened read =
       ap (λ (o : Option Spelled). cases_of o (made_of Test (test_at ts)) (λ after. made_of Group (inside_at (cond_at n) ts))) opened ∙ ap (made_of Group) read
@@ -154,14 +153,14 @@ module _ (n : ℕ) (inner : Reads (cond_at n) cond_spelled (λ c. is_within c n)
         | inr c ↦ subst (λ (q : Primary). IsTrue (prim_within n q) → primary_at (cond_at n) (prim_spelled q ++ rest) ≡ Some (q, rest)) (sym c.1) (λ f. group_again c.0 rest (sym (within_group c.0 n) ∙ f)) formed
       ]
 
-  primaries : Reads (primary_at (cond_at n)) prim_spelled (prim_within n) goes_on
+  primaries : Parses (primary_at (cond_at n)) prim_spelled (prim_within n) goes_on
   primaries = record { takes = primary_takes; again = primary_again }
 
-  conjunctions : Reads (conj_at (cond_at n)) conj_spelled (conj_within n) conj_goes_on
+  conjunctions : Parses (conj_at (cond_at n)) conj_spelled (conj_within n) conj_goes_on
   unfolding conj_at
   conjunctions = made (sequences primaries ands refl) conj_of (λ c. c.all) conj_spelled (conj_within n) (λ c. refl) (λ ps. refl) (λ ps. refl)
 
-  next : Reads (cond_at (suc n)) cond_spelled (λ c. is_within c (suc n)) cond_goes_on
+  next : Parses (cond_at (suc n)) cond_spelled (λ c. is_within c (suc n)) cond_goes_on
   unfolding cond_at
   next = made (sequences conjunctions ors refl) cond_of conjs_of cond_spelled (λ c. is_within c (suc n)) cond_of-conjs spelled_any (λ cs. within_any cs n)
 
@@ -170,7 +169,7 @@ never_within c h =
     let no : false ≡ true = sym (within_none (conjs_of c)) ∙ ap (λ (d : Cond). is_within d zero) (cond_of-conjs c) ∙ h in
     cc
 
-conds : (n : ℕ) → Reads (cond_at n) cond_spelled (λ c. is_within c n) cond_goes_on
+conds : (n : ℕ) → Parses (cond_at n) cond_spelled (λ c. is_within c n) cond_goes_on
 unfolding cond_at
 conds zero = record {
   takes = λ ts x e. absurd cc;
@@ -231,5 +230,5 @@ condition_again c rest f ends =
     let lt : length (cond_spelled c) < suc (length (cond_spelled c ++ rest)) = omega (arith, length-append (cond_spelled c) rest) in
     (conds (suc (length (cond_spelled c ++ rest)))).again c rest (cond_fits (suc (length (cond_spelled c ++ rest))) c f lt) ends
 
-pub conditions : Reads condition_at cond_spelled is_condition cond_goes_on
+pub conditions : Parses condition_at cond_spelled is_condition cond_goes_on
 conditions = record { takes = condition_takes; again = condition_again }

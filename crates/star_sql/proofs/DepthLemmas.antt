@@ -1,7 +1,7 @@
 -- Too many parentheses are open at once exactly where some prefix has them.
-use Rattle.std.proofs.Common.{◌≡◌, ℕ, ◌+◌, ◌<◌, ◌≤◌, Bool, true, false, ◌||◌, ltb, [], ◌∷◌, ◌++◌, refl, ap, ◌∙◌, arith, inl, inr, ◌⊎◌}
+use Rattle.std.proofs.Common.{◌≡◌, ℕ, ◌+◌, ◌<◌, ◌≤◌, Bool, true, ltb, [], ◌∷◌, ◌++◌, refl, ap, ◌∙◌, arith, inl, inr}
 use Rattle.std.specs.List.{count_by}
-use Rattle.std.proofs.lemmas.Bool.{cases_lt, lt-ltb, ltb-true}
+use Rattle.std.proofs.lemmas.Bool.{cases_lt, lt-ltb, ltb-true, or_cases, or_right}
 use Rattle.std.proofs.lemmas.List.Sums.{sum_by-cons}
 use Rattle.star_lex.specs.declared.token.TokenKind.{TokenKind}
 use Rattle.star_sql.specs.Spelling.{Spelled}
@@ -14,21 +14,13 @@ record DeepFrom (opened closed : ℕ) (ts : Spelled) : Type 0 where
   parts : ts ≡ front ++ behind
   deep : (closed + count_by closes front) + 32 < opened + count_by opens front
 
-either_true : (a b : Bool) → (a || b) ≡ true → (a ≡ true) ⊎ (b ≡ true)
-either_true true b e = inl refl
-either_true false b e = inr e
-
-or_right : (a b : Bool) → b ≡ true → (a || b) ≡ true
-or_right true b e = refl
-or_right false b e = e
-
 count_first : (p : TokenKind → Bool) (t : TokenKind) (front : Spelled) → count_by p (t ∷ front) ≡ counted (p t) + count_by p front
 count_first p t front = sum_by-cons (λ x. counted (p x)) t front
 
 found : (ts : Spelled) (o c : ℕ) → is_deep_from o c ts ≡ true → DeepFrom o c ts
 found [] o c e = absurd cc
 found (t ∷ ts) o c e =
-    elim (either_true (ltb ((c + counted (closes t)) + 32) (o + counted (opens t))) (is_deep_from (o + counted (opens t)) (c + counted (closes t)) ts) e) [
+    elim (or_cases (ltb ((c + counted (closes t)) + 32) (o + counted (opens t))) (is_deep_from (o + counted (opens t)) (c + counted (closes t)) ts) e) [
       | inl lt ↦
           let l : (c + counted (closes t)) + 32 < o + counted (opens t) = ltb-true _ _ lt in
           record { front = t ∷ []; behind = ts; parts = refl; deep = omega arith }

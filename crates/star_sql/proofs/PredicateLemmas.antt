@@ -2,7 +2,7 @@
 use Rattle.std.proofs.Common.{◌≡◌, ℕ, Bool, true, false, cond, ◌&&◌, ◌||◌, List, [], ◌∷◌, ◌++◌, map, Option, Some, None, refl, sym, ap, subst, ◌∙◌, append_assoc, inl, inr}
 use Rattle.std.specs.Prelude.{IsTrue, codes}
 use Rattle.std.specs.Str.{bytes_eq}
-use Rattle.std.proofs.Math.Bool.{and_assoc}
+use Rattle.std.proofs.Math.Bool.{and_assoc, and-true}
 use Rattle.blink_base.specs.declared.op.Op.{Op}
 use Rattle.blink_base.specs.declared.op.Op.TheVariants as op
 use Rattle.star_lex.specs.declared.token.TokenKind.{TokenKind}
@@ -15,11 +15,11 @@ use Rattle.star_sql.specs.declared.ast.TestWords.{TestWords}
 use Rattle.star_sql.specs.declared.ast.TestWords.TheVariants.{Compare, Columns, Between, Among, Like}
 use Rattle.star_sql.specs.Spelling.{Spelled, name_of, text_of, listed, in_parentheses, op_spelled, literal_spelled, qualified, column_spelled, test_spelled}
 use Rattle.star_sql.specs.WellFormed.{some_and_all, is_literal, is_column_name, is_test}
-use Rattle.star_sql.specs.ParseResult.{opens}
-use Rattle.star_sql.specs.Parsers.{Front, is_dot, is_text, behind, literal_at, text_at, date_at, made_of, enclosed_at}
+use Rattle.star_sql.specs.Parsers.{ParseOf, is_mark, is_text, behind, plain_at, literal_at, text_at, date_at, made_of, enclosed_at}
 use Rattle.star_sql.specs.PredicateParsers.{column_at, op_of, compared_at, bounds_at, worded_tests, worded_at, tested_at, test_at}
-use Rattle.star_sql.proofs.StepLemmas.{bind_some, cased, some_is, both_true, and_true, and_always, goes_on_after}
-use Rattle.star_sql.proofs.TokenLemmas.{Reads, none_further, never_behind, behind_either, text_again, literals, texts}
+use Rattle.star_sql.proofs.StepLemmas.{bind_some, cased, some_is, goes_on_after}
+use Rattle.std.proofs.lemmas.Bool.{and_parts, and_from}
+use Rattle.star_sql.proofs.TokenLemmas.{Parses, none_further, never_behind, behind_either, text_again, literals, texts}
 use Rattle.star_sql.proofs.CombinatorLemmas.{both, after, enclosures, passes_word, by_word_takes, AllTake, form}
 use Rattle.star_sql.proofs.ColumnLemmas.{columns}
 
@@ -79,11 +79,11 @@ compared_takes c o ts x e =
           subst P (some_is (Compare c o p.0.0, p.0.1) x p.2) (refl, t.0, goes_on_after (op_spelled o) (literal_spelled p.0.0) p.0.1 refl t.1)
     ]
 
-bounds : Reads bounds_at (λ (x : Literal × Literal). literal_spelled x.0 ++ Name (codes "and") ∷ literal_spelled x.1) (λ x. is_literal x.0 && is_literal x.1) (λ t. none_further t || none_further t)
+bounds : Parses bounds_at (λ (x : Literal × Literal). literal_spelled x.0 ++ Name (codes "and") ∷ literal_spelled x.1) (λ x. is_literal x.0 && is_literal x.1) (λ t. none_further t || none_further t)
 unfolding bounds_at
 bounds = both literals (after literals (codes "and")) (passes_word none_further (codes "and") literal_spelled refl)
 
-among : Reads (enclosed_at literal_at) (λ (vs : List Literal). in_parentheses (listed (map literal_spelled vs))) (some_and_all is_literal) none_further
+among : Parses (enclosed_at literal_at) (λ (vs : List Literal). in_parentheses (listed (map literal_spelled vs))) (some_and_all is_literal) none_further
 among = enclosures literals refl refl
 
 worded_take : (c : ColumnName) → AllTake (TakesTail c) (worded_tests c)
@@ -118,7 +118,7 @@ formed_parts (Compare c o v) = refl
 formed_parts (Columns c o d) = refl
 formed_parts (Between c low high) = and_assoc (is_column_name c) (is_literal low) (is_literal high)
 formed_parts (Among c vs) = refl
-formed_parts (Like c p) = and_always (is_column_name c)
+formed_parts (Like c p) = sym (and-true (is_column_name c))
 
 abbrev TakesTest : Spelled → TestWords × Spelled → Type 0
 TakesTest ts x = IsTrue (is_test x.0) × (ts ≡ test_spelled x.0 ++ x.1)
@@ -132,13 +132,13 @@ test_takes ts x e =
     let named : IsTrue (is_column_name (subject x.0)) = ap is_column_name t.0 ∙ c.0 in
     let first : ts ≡ column_spelled (subject x.0) ++ a.0.1 = c.1 ∙ ap (λ (d : ColumnName). column_spelled d ++ a.0.1) (sym t.0) in
     let parts : ts ≡ (column_spelled (subject x.0) ++ tail_spelled x.0) ++ x.1 = goes_on_after (column_spelled (subject x.0)) (tail_spelled x.0) x.1 first t.2 in
-    (formed_parts x.0 ∙ and_true (is_column_name (subject x.0)) (is_tail x.0) named t.1, parts ∙ ap (λ (s : Spelled). s ++ x.1) (sym (spelled_parts x.0)))
+    (formed_parts x.0 ∙ and_from (is_column_name (subject x.0)) (is_tail x.0) named t.1, parts ∙ ap (λ (s : Spelled). s ++ x.1) (sym (spelled_parts x.0)))
 
 -- what a test may be read on with: the second name of a column, and the text of a date
 abbrev pub goes_on : TokenKind → Bool
-goes_on t = is_dot t || is_text t
+goes_on t = is_mark mark.Dot t || is_text t
 
-same_none : (b : Bool) (read : Front Literal) → cond b read read ≡ read
+same_none : (b : Bool) (read : ParseOf Literal) → cond b read read ≡ read
 same_none true read = refl
 same_none false read = refl
 
@@ -152,7 +152,7 @@ no_text (Symbol m ∷ ts) e = refl
 
 -- a column is no literal
 no_literal : (table : Option (List ℕ)) (column : List ℕ) (rest : Spelled) → behind is_text rest ≡ None → literal_at (qualified table (name_of column) ++ rest) ≡ None
-unfolding literal_at behind
+unfolding literal_at plain_at behind
 no_literal None column rest ends = rw (no_text rest ends) (same_none (bytes_eq column (codes "date")) None)
 no_literal (Some table) column rest ends = rw (no_text (Symbol mark.Dot ∷ Name column ∷ rest) refl) (same_none (bytes_eq table (codes "date")) None)
 
@@ -174,7 +174,7 @@ value_read : (c : ColumnName) (o : Op) (v : Literal) (rest : Spelled) → IsTrue
 unfolding compared_at
 value_read c o v rest f = rw (literals.again v rest f (never_behind rest)) refl
 
-column_read : (c : ColumnName) (o : Op) (d : ColumnName) (rest : Spelled) → IsTrue (is_column_name d) → (behind is_dot rest ≡ None) × (behind is_text rest ≡ None) → compared_at c o (column_spelled d ++ rest) ≡ Some (Columns c o d, rest)
+column_read : (c : ColumnName) (o : Op) (d : ColumnName) (rest : Spelled) → IsTrue (is_column_name d) → (behind (is_mark mark.Dot) rest ≡ None) × (behind is_text rest ≡ None) → compared_at c o (column_spelled d ++ rest) ≡ Some (Columns c o d, rest)
 unfolding compared_at
 column_read c o d rest f ends = rw (no_literal d.table d.column rest ends.1, columns.again d rest f ends.0) refl
 
@@ -183,13 +183,13 @@ unfolding tested_at worded_at
 tested_again (Compare c o v) rest f ends =
     ap (tested_at c) (append_assoc (op_spelled o) (literal_spelled v) rest) ∙ op_read c o (literal_spelled v ++ rest) ∙ value_read c o v rest f
 tested_again (Columns c o d) rest f ends =
-    ap (tested_at c) (append_assoc (op_spelled o) (column_spelled d) rest) ∙ op_read c o (column_spelled d ++ rest) ∙ column_read c o d rest f (behind_either is_dot is_text rest ends)
+    ap (tested_at c) (append_assoc (op_spelled o) (column_spelled d) rest) ∙ op_read c o (column_spelled d ++ rest) ∙ column_read c o d rest f (behind_either (is_mark mark.Dot) is_text rest ends)
 tested_again (Between c low high) rest f ends = rw (bounds.again (low, high) rest f (never_behind rest)) refl
 tested_again (Among c vs) rest f ends = rw (among.again vs rest f (never_behind rest)) refl
 tested_again (Like c p) rest f ends = rw (text_again p rest) refl
 
 -- what stands behind a column is no dot
-by_op : (o : Op) (s rest : Spelled) → behind is_dot ((op_spelled o ++ s) ++ rest) ≡ None
+by_op : (o : Op) (s rest : Spelled) → behind (is_mark mark.Dot) ((op_spelled o ++ s) ++ rest) ≡ None
 unfolding behind
 by_op op.Equal s rest = refl
 by_op op.Unequal s rest = refl
@@ -198,7 +198,7 @@ by_op op.LessEqual s rest = refl
 by_op op.Greater s rest = refl
 by_op op.GreaterEqual s rest = refl
 
-no_dot : (t : TestWords) (rest : Spelled) → behind is_dot (tail_spelled t ++ rest) ≡ None
+no_dot : (t : TestWords) (rest : Spelled) → behind (is_mark mark.Dot) (tail_spelled t ++ rest) ≡ None
 unfolding behind
 no_dot (Compare c o v) rest = by_op o (literal_spelled v) rest
 no_dot (Columns c o d) rest = by_op o (column_spelled d) rest
@@ -209,20 +209,20 @@ no_dot (Like c p) rest = refl
 test_again : (t : TestWords) (rest : Spelled) → IsTrue (is_test t) → behind goes_on rest ≡ None → test_at (test_spelled t ++ rest) ≡ Some (t, rest)
 unfolding test_at
 test_again t rest formed ends =
-    let f = both_true (is_column_name (subject t)) (is_tail t) (sym (formed_parts t) ∙ formed) in
+    let f = and_parts (is_column_name (subject t)) (is_tail t) (sym (formed_parts t) ∙ formed) in
     let e : test_spelled t ++ rest ≡ column_spelled (subject t) ++ (tail_spelled t ++ rest) = ap (λ (s : Spelled). s ++ rest) (spelled_parts t) ∙ append_assoc (column_spelled (subject t)) (tail_spelled t) rest in
     let c = columns.again (subject t) (tail_spelled t ++ rest) f.0 (no_dot t rest) in
     ap test_at e ∙ rw c (tested_again t rest f.1 ends)
 
-pub tests : Reads test_at test_spelled is_test goes_on
+pub tests : Parses test_at test_spelled is_test goes_on
 tests = record { takes = test_takes; again = test_again }
 
-by_table : (table : Option (List ℕ)) (column : List ℕ) (s rest : Spelled) → behind opens ((qualified table (name_of column) ++ s) ++ rest) ≡ None
+by_table : (table : Option (List ℕ)) (column : List ℕ) (s rest : Spelled) → behind (is_mark mark.Left) ((qualified table (name_of column) ++ s) ++ rest) ≡ None
 unfolding behind
 by_table None column s rest = refl
 by_table (Some table) column s rest = refl
 
 -- a test opens no parenthesis
-pub not_opened : (t : TestWords) (rest : Spelled) → behind opens (test_spelled t ++ rest) ≡ None
+pub not_opened : (t : TestWords) (rest : Spelled) → behind (is_mark mark.Left) (test_spelled t ++ rest) ≡ None
 unfolding behind
-not_opened t rest = ap (λ (s : Spelled). behind opens (s ++ rest)) (spelled_parts t) ∙ by_table (subject t).table (subject t).column (tail_spelled t) rest
+not_opened t rest = ap (λ (s : Spelled). behind (is_mark mark.Left) (s ++ rest)) (spelled_parts t) ∙ by_table (subject t).table (subject t).column (tail_spelled t) rest

@@ -11,13 +11,14 @@ use Rattle.star_sql.specs.declared.ast.Cond.{Cond}
 use Rattle.star_sql.specs.declared.ast.Select.{Select}
 use Rattle.star_sql.specs.Spelling.{Spelled, name_of, listed, where_some, where_any, column_spelled, item_spelled, order_spelled, cond_spelled, number_spelled, select_spelled}
 use Rattle.star_sql.specs.WellFormed.{if_there, is_column_name, is_order_key, is_written_limit, is_select}
-use Rattle.star_sql.specs.Parsers.{is_word, is_comma, is_dot}
+use Rattle.star_sql.specs.Parsers.{is_word, is_mark}
 use Rattle.star_sql.specs.QueryParsers.{Parts, of_parts, end_at, select_at}
-use Rattle.star_sql.proofs.TokenLemmas.{Reads, none_further, names, limits}
+use Rattle.star_sql.proofs.TokenLemmas.{Parses, none_further, names, limits}
 use Rattle.star_sql.proofs.CombinatorLemmas.{Passes, passes_word, passes_some, passes_any, passes_both, both, made, after, optionals, lists, bys}
 use Rattle.star_sql.proofs.ColumnLemmas.{columns}
 use Rattle.star_sql.proofs.ItemLemmas.{item_goes_on, items, order_goes_on, orders}
 use Rattle.star_sql.proofs.ConditionLemmas.{cond_goes_on, conditions}
+use Rattle.star_lex.specs.declared.token.Mark.TheVariants as mark
 
 -- ---- GROUP BY, ORDER BY and LIMIT
 
@@ -40,10 +41,10 @@ abbrev is_end : End → Bool
 is_end x = list_all is_column_name x.0 && (list_all is_order_key x.1.0 && if_there is_written_limit x.1.1)
 
 abbrev groups_go_on : TokenKind → Bool
-groups_go_on t = is_word (codes "group") t || (is_comma t || is_dot t)
+groups_go_on t = is_word (codes "group") t || (is_mark mark.Comma t || is_mark mark.Dot t)
 
 abbrev orders_go_on : TokenKind → Bool
-orders_go_on t = is_word (codes "order") t || (is_comma t || order_goes_on t)
+orders_go_on t = is_word (codes "order") t || (is_mark mark.Comma t || order_goes_on t)
 
 abbrev end_goes_on : TokenKind → Bool
 end_goes_on t = groups_go_on t || (orders_go_on t || (is_word (codes "limit") t || none_further t))
@@ -54,7 +55,7 @@ passes_end test group order limit =
     passes_both test groups_spelled (λ (x : List OrderKey × Option ℕ). orders_spelled x.0 ++ limit_spelled x.1) (passes_any test (codes "group") (codes "by") column_spelled group)
     (passes_both test orders_spelled limit_spelled (passes_any test (codes "order") (codes "by") order_spelled order) (passes_some test (codes "limit") number_spelled limit))
 
-ends : Reads end_at end_spelled is_end end_goes_on
+ends : Parses end_at end_spelled is_end end_goes_on
 unfolding end_at
 ends =
     both (bys columns refl (codes "group"))
@@ -77,10 +78,10 @@ abbrev parts_of : Select → Parts
 parts_of s = (s.items, (s.tables, (s.condition, (s.groups, (s.order, s.limit)))))
 
 abbrev items_go_on : TokenKind → Bool
-items_go_on t = is_comma t || item_goes_on t
+items_go_on t = is_mark mark.Comma t || item_goes_on t
 
 abbrev tables_go_on : TokenKind → Bool
-tables_go_on t = is_comma t || none_further t
+tables_go_on t = is_mark mark.Comma t || none_further t
 
 abbrev condition_goes_on : TokenKind → Bool
 condition_goes_on t = is_word (codes "where") t || cond_goes_on t
@@ -88,7 +89,7 @@ condition_goes_on t = is_word (codes "where") t || cond_goes_on t
 abbrev pub select_goes_on : TokenKind → Bool
 select_goes_on t = items_go_on t || (tables_go_on t || (condition_goes_on t || end_goes_on t))
 
-pub selects : Reads select_at behind_select is_select select_goes_on
+pub selects : Parses select_at behind_select is_select select_goes_on
 unfolding select_at
 selects =
     made

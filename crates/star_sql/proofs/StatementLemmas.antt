@@ -1,4 +1,4 @@
--- What is read as a statement is spelled so, and what is spelled so is read again: the reader is the inverse of the spelling.
+-- What is read as a statement is spelled so, and what is spelled so is read again: the parser is the inverse of the spelling.
 use Rattle.std.proofs.Common.{◌≡◌, ℕ, Bool, true, ◌&&◌, ◌||◌, List, [], ◌∷◌, ◌++◌, map, Some, None, refl, sym, ap, ◌∙◌, Result, Ok, Err}
 use Rattle.std.specs.Prelude.{IsTrue, IfOk, codes}
 use Rattle.std.proofs.lemmas.List.{append-nil}
@@ -15,12 +15,14 @@ use Rattle.star_sql.specs.declared.fault.ParseFault.TheVariants as fault
 use Rattle.star_sql.specs.Spelling.{Spelled, name_of, text_of, kind_spelled, key_mark, literal_spelled, definition_spelled, in_parentheses, listed, spell}
 use Rattle.star_sql.specs.WellFormed.{some_and_all, is_definition, is_literal, is_well_formed}
 use Rattle.star_sql.specs.ParseResult.{IsSpelled, SpelledOnce}
-use Rattle.star_sql.specs.Parsers.{Front, Gives, is_word, is_comma, behind, enclosed_at, literal_at}
+use Rattle.star_sql.specs.Parsers.{ParseOf, Gives, is_word, is_mark, behind, enclosed_at, literal_at}
 use Rattle.star_sql.specs.StatementParsers.{definition_at, named_at, filed_at, create_at, insert_at, of_both, forms, behind_word, statement_at, alone, whole}
-use Rattle.star_sql.proofs.StepLemmas.{some_is, and_always}
-use Rattle.star_sql.proofs.TokenLemmas.{Reads, none_further, names, texts, literals, kinds, keys, any_text, never_behind}
+use Rattle.star_sql.proofs.StepLemmas.{some_is}
+use Rattle.std.proofs.Math.Bool.{and-true}
+use Rattle.star_sql.proofs.TokenLemmas.{Parses, none_further, names, texts, literals, kinds, keys, any_text, never_behind}
 use Rattle.star_sql.proofs.CombinatorLemmas.{both, made, after, lists, enclosures, by_word_takes, AllTake, form}
 use Rattle.star_sql.proofs.SelectLemmas.{select_parts, selects}
+use Rattle.star_lex.specs.declared.token.Mark.TheVariants as mark
 
 -- ---- the parts of statements
 
@@ -28,31 +30,31 @@ use Rattle.star_sql.proofs.SelectLemmas.{select_parts, selects}
 abbrev definition_goes_on : TokenKind → Bool
 definition_goes_on t = none_further t || (none_further t || is_word (codes "primary") t)
 
-definitions : Reads definition_at definition_spelled is_definition definition_goes_on
+definitions : Parses definition_at definition_spelled is_definition definition_goes_on
 unfolding definition_at
 definitions =
     made (both names (both kinds keys (λ key rest ends. never_behind (key_mark key ++ rest))) (λ x rest ends. never_behind ((kind_spelled x.0 ++ key_mark x.1) ++ rest)))
-    (λ (x : List ℕ × (Kind × Bool)). record { name = x.0; kind = x.1.0; key = x.1.1 }) (λ d. (d.name, (d.kind, d.key))) definition_spelled is_definition (λ d. refl) (λ x. refl) (λ x. and_always (is_name x.0))
+    (λ (x : List ℕ × (Kind × Bool)). record { name = x.0; kind = x.1.0; key = x.1.1 }) (λ d. (d.name, (d.kind, d.key))) definition_spelled is_definition (λ d. refl) (λ x. refl) (λ x. sym (and-true (is_name x.0)))
 
-named : (w : List ℕ) → Reads (named_at w) (λ (n : List ℕ). Name w ∷ name_of n) is_name none_further
+named : (w : List ℕ) → Parses (named_at w) (λ (n : List ℕ). Name w ∷ name_of n) is_name none_further
 unfolding named_at
 named w = after names w
 
-filed : (w v : List ℕ) → Reads (filed_at w v) (λ (x : List ℕ × List ℕ). (Name w ∷ name_of x.0) ++ (Name v ∷ text_of x.1)) (λ x. is_name x.0 && any_text x.1) (λ t. none_further t || none_further t)
+filed : (w v : List ℕ) → Parses (filed_at w v) (λ (x : List ℕ × List ℕ). (Name w ∷ name_of x.0) ++ (Name v ∷ text_of x.1)) (λ x. is_name x.0 && any_text x.1) (λ t. none_further t || none_further t)
 unfolding filed_at
 filed w v = both (named w) (after texts v) (λ file rest ends. never_behind ((Name v ∷ text_of file) ++ rest))
 
-creates : Reads create_at (λ (x : List ℕ × List ColumnDef). (Name (codes "table") ∷ name_of x.0) ++ in_parentheses (listed (map definition_spelled x.1))) (λ x. is_name x.0 && some_and_all is_definition x.1) (λ t. none_further t || none_further t)
+creates : Parses create_at (λ (x : List ℕ × List ColumnDef). (Name (codes "table") ∷ name_of x.0) ++ in_parentheses (listed (map definition_spelled x.1))) (λ x. is_name x.0 && some_and_all is_definition x.1) (λ t. none_further t || none_further t)
 unfolding create_at
 creates = both (named (codes "table")) (enclosures definitions refl refl) (λ ds rest ends. never_behind (in_parentheses (listed (map definition_spelled ds)) ++ rest))
 
 abbrev row_spelled : List Literal → Spelled
 row_spelled row = in_parentheses (listed (map literal_spelled row))
 
-rows : Reads (enclosed_at literal_at) row_spelled (some_and_all is_literal) none_further
+rows : Parses (enclosed_at literal_at) row_spelled (some_and_all is_literal) none_further
 rows = enclosures literals refl refl
 
-inserts : Reads insert_at (λ (x : List ℕ × List (List Literal)). (Name (codes "into") ∷ name_of x.0) ++ (Name (codes "values") ∷ listed (map row_spelled x.1))) (λ x. is_name x.0 && some_and_all (some_and_all is_literal) x.1) (λ t. none_further t || (is_comma t || none_further t))
+inserts : Parses insert_at (λ (x : List ℕ × List (List Literal)). (Name (codes "into") ∷ name_of x.0) ++ (Name (codes "values") ∷ listed (map row_spelled x.1))) (λ x. is_name x.0 && some_and_all (some_and_all is_literal) x.1) (λ t. none_further t || (is_mark mark.Comma t || none_further t))
 unfolding insert_at
 inserts = both (named (codes "into")) (after (lists rows refl) (codes "values")) (λ rs rest ends. never_behind ((Name (codes "values") ∷ listed (map row_spelled rs)) ++ rest))
 
@@ -64,7 +66,7 @@ Takes ts x = IsTrue (is_well_formed x.0) × (ts ≡ spell x.0 ++ x.1)
 
 -- a name, and a text that is always one
 name_alone : (b : Bool) → IsTrue (b && true) → IsTrue b
-name_alone b h = and_always b ∙ h
+name_alone b h = sym (and-true b) ∙ h
 
 forms_take : AllTake Takes forms
 forms_take = (
@@ -108,12 +110,12 @@ statement_takes (Text w ∷ ts) x e = absurd cc
 statement_takes (Symbol m ∷ ts) x e = absurd cc
 
 -- with nothing behind it
-to_end : {A : Type 0} {reads : Spelled → Front A} {spelled : A → Spelled} {formed : A → Bool} {further : TokenKind → Bool} → Reads reads spelled formed further → (a : A) → IsTrue (formed a) → reads (spelled a) ≡ Some (a, [])
+to_end : {A : Type 0} {parses : Spelled → ParseOf A} {spelled : A → Spelled} {formed : A → Bool} {further : TokenKind → Bool} → Parses parses spelled formed further → (a : A) → IsTrue (formed a) → parses (spelled a) ≡ Some (a, [])
 unfolding behind
-to_end {A} {reads} {spelled} {formed} {further} one a f = ap reads (sym (append-nil (spelled a))) ∙ one.again a [] f refl
+to_end {A} {parses} {spelled} {formed} {further} one a f = ap parses (sym (append-nil (spelled a))) ∙ one.again a [] f refl
 
 file_formed : (b : Bool) → IsTrue b → IsTrue (b && true)
-file_formed b h = sym (and_always b) ∙ h
+file_formed b h = and-true b ∙ h
 
 statement_again : (s : Statement) → IsTrue (is_well_formed s) → statement_at (spell s) ≡ Some (s, [])
 unfolding statement_at behind_word
@@ -129,7 +131,7 @@ statement_again (statement.Explain s) f = ap (λ (t : Spelled). statement_at (Na
 statement_again (statement.Export n file) f = rw (to_end (filed (codes "table") (codes "to")) (n, file) (file_formed (is_name n) f)) refl
 statement_again (statement.Import n file) f = rw (to_end (filed (codes "table") (codes "from")) (n, file) (file_formed (is_name n) f)) refl
 
-alone_is : (read : Front Statement) (s : Statement) → alone read ≡ Some s → read ≡ Some (s, [])
+alone_is : (read : ParseOf Statement) (s : Statement) → alone read ≡ Some s → read ≡ Some (s, [])
 alone_is None s e = absurd cc
 alone_is (Some (t, [])) s e = ap (λ (u : Statement). Some (u, [])) (some_is t s e)
 alone_is (Some (t, k ∷ ks)) s e = absurd cc

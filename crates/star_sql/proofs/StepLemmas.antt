@@ -1,5 +1,5 @@
--- Steps of a reader: what a step that did not fail tells, and how what was taken is put together.
-use Rattle.std.proofs.Common.{◌≡◌, Bool, true, false, ◌&&◌, cond, List, ◌++◌, Option, Some, None, refl, sym, ap, ◌∙◌, append_assoc, ◌⊎◌, inl, inr}
+-- Steps of a parser: what a step that did not fail tells, and how what was taken is put together.
+use Rattle.std.proofs.Common.{◌≡◌, Bool, true, false, cond, List, ◌++◌, Option, Some, None, refl, sym, ap, ◌∙◌, append_assoc, ◌⊎◌, inl, inr}
 use Rattle.star_sql.specs.Parsers.{◌>>=◌, cases_of}
 
 -- the value of a step that did not fail
@@ -22,20 +22,9 @@ pub cased : {A B : Type 0} (o : Option A) (none : B) (some : A → B) (z : B) �
 cased None none some z e = inl (refl, e)
 cased (Some x) none some z e = inr (x, refl, e)
 
-pub both_true : (a b : Bool) → (a && b) ≡ true → (a ≡ true) × (b ≡ true)
-both_true true b e = (refl, e)
-both_true false b e = absurd cc
-
-pub and_true : (a b : Bool) → a ≡ true → b ≡ true → (a && b) ≡ true
-and_true a b p q = rw (p, q) refl
-
 -- a list that goes on after a part, and then after another
 pub goes_on_after : {A : Type 0} {whole s : List A} (a b rest : List A) → whole ≡ a ++ s → s ≡ b ++ rest → whole ≡ (a ++ b) ++ rest
 goes_on_after {A} {whole} {s} a b rest p q = p ∙ ap (λ (t : List A). a ++ t) q ∙ sym (append_assoc a b rest)
-
-pub and_always : (b : Bool) → b ≡ (b && true)
-and_always true = refl
-and_always false = refl
 
 abbrev there : {A : Type 0} → A → Option A
 there x = Some x

@@ -1,26 +1,27 @@
--- What a reader takes from the front is spelled so, and what is spelled so is read again: of words, marks, names and literals.
-use Rattle.std.proofs.Common.{◌≡◌, ℕ, ℤ, pos, negsuc, Bool, true, false, cond, ◌||◌, List, [], ◌∷◌, ◌++◌, Some, None, refl, ap, subst, inl, inr}
+-- What a parser takes is spelled so, and what is spelled so is read again: of words, marks, names and literals.
+use Rattle.std.proofs.Common.{◌≡◌, ℕ, ℤ, pos, negsuc, Bool, true, false, cond, ◌||◌, List, [], ◌∷◌, ◌++◌, Some, None, eqb, refl, sym, ap, ◌∙◌, subst, inl, inr}
 use Rattle.std.specs.Prelude.{IsTrue, codes}
 use Rattle.std.specs.Str.{bytes_eq}
+use Rattle.std.proofs.lemmas.Bool.{eqb-true, eq-eqb, ne_eqb}
 use Rattle.std.proofs.lemmas.Slice.Eq.{bytes_eq-Decides}
 use Rattle.blink_base.specs.declared.value.Kind.{Kind}
 use Rattle.blink_base.specs.declared.value.Kind.TheVariants as kind
 use Rattle.blink_base.specs.Identifiers.{is_name}
 use Rattle.star_lex.specs.declared.token.TokenKind.{TokenKind}
 use Rattle.star_lex.specs.declared.token.TokenKind.TheVariants.{Name, Number, Text, Symbol}
+use Rattle.star_lex.specs.declared.token.Mark.{Mark}
 use Rattle.star_lex.specs.declared.token.Mark.TheVariants as mark
 use Rattle.star_sql.specs.declared.ast.Literal.{Literal}
 use Rattle.star_sql.specs.declared.ast.Literal.TheVariants as literal
 use Rattle.star_sql.specs.Spelling.{Spelled, name_of, text_of, kind_spelled, key_mark, literal_spelled, number_spelled}
 use Rattle.star_sql.specs.WellFormed.{is_written_number, is_written_limit, is_literal}
-use Rattle.star_sql.specs.ParseResult.{opens, closes}
-use Rattle.star_sql.specs.Parsers.{Front, ◌>>=◌, is_word, is_comma, is_dot, is_star, is_minus, behind, name_at, text_at, number_at, date_at, literal_at, kind_of_word, kind_at, key_at, limit_of, limit_at}
+use Rattle.star_sql.specs.Parsers.{ParseOf, ◌>>=◌, is_word, mark_index, is_mark, behind, name_at, text_at, number_at, date_at, plain_at, literal_at, kind_of_word, kind_at, key_at, limit_of, limit_at}
 use Rattle.star_sql.proofs.StepLemmas.{bind_some, guard_some, chosen, cased, some_is}
 
--- a reader of what has one spelling: it takes what is spelled so, and takes it again, where no token that it would read on with stands behind it
-pub record Reads {A : Type 0} (reads : Spelled → Front A) (spelled : A → Spelled) (formed : A → Bool) (further : TokenKind → Bool) : Type 0 where
-  pub takes : (ts : Spelled) (x : A × Spelled) → reads ts ≡ Some x → IsTrue (formed x.0) × (ts ≡ spelled x.0 ++ x.1)
-  pub again : (a : A) (rest : Spelled) → IsTrue (formed a) → behind further rest ≡ None → reads (spelled a ++ rest) ≡ Some (a, rest)
+-- a parser of what has one spelling: it takes what is spelled so, and takes it again, where no token that it would read on with stands behind it
+pub record Parses {A : Type 0} (parses : Spelled → ParseOf A) (spelled : A → Spelled) (formed : A → Bool) (further : TokenKind → Bool) : Type 0 where
+  pub takes : (ts : Spelled) (x : A × Spelled) → parses ts ≡ Some x → IsTrue (formed x.0) × (ts ≡ spelled x.0 ++ x.1)
+  pub again : (a : A) (rest : Spelled) → IsTrue (formed a) → behind further rest ≡ None → parses (spelled a ++ rest) ≡ Some (a, rest)
 
 -- no token is read on with
 abbrev pub none_further : TokenKind → Bool
@@ -31,43 +32,51 @@ unfolding behind
 never_behind [] = refl
 never_behind (t ∷ ts) = refl
 
-pub same_bytes : (a b : List ℕ) → bytes_eq a b ≡ true → a ≡ b
-same_bytes a b e = (bytes_eq-Decides a b).0 e
-
-pub equal_bytes : (a : List ℕ) → bytes_eq a a ≡ true
-equal_bytes a = (bytes_eq-Decides a a).1 refl
-
 -- ---- words and marks
 
 pub word_is : (w : List ℕ) (t : TokenKind) → is_word w t ≡ true → t ≡ Name w
-word_is w (Name v) e = ap (λ (u : List ℕ). Name u) (same_bytes v w e)
+word_is w (Name v) e = ap (λ (u : List ℕ). Name u) ((bytes_eq-Decides v w).0 e)
 word_is w (Number n) e = absurd cc
 word_is w (Text v) e = absurd cc
 word_is w (Symbol m) e = absurd cc
 
-pub comma_is : (t : TokenKind) → is_comma t ≡ true → t ≡ Symbol mark.Comma
-comma_is (Symbol mark.Comma) e = refl
-comma_is _ e = absurd cc
+-- the mark of a number
+abbrev mark_at : ℕ → Mark
+mark_at n =
+    cond (eqb n 0) mark.LessEqual (cond (eqb n 1) mark.GreaterEqual (cond (eqb n 2) mark.Unequal (cond (eqb n 3) mark.Left
+    (cond (eqb n 4) mark.Right (cond (eqb n 5) mark.Comma (cond (eqb n 6) mark.Dot (cond (eqb n 7) mark.Star
+    (cond (eqb n 8) mark.Plus (cond (eqb n 9) mark.Minus (cond (eqb n 10) mark.Equal (cond (eqb n 11) mark.Less mark.Greater)))))))))))
 
-pub dot_is : (t : TokenKind) → is_dot t ≡ true → t ≡ Symbol mark.Dot
-dot_is (Symbol mark.Dot) e = refl
-dot_is _ e = absurd cc
+index_at : (m : Mark) → mark_at (mark_index m) ≡ m
+index_at mark.LessEqual = refl
+index_at mark.GreaterEqual = refl
+index_at mark.Unequal = refl
+index_at mark.Left = refl
+index_at mark.Right = refl
+index_at mark.Comma = refl
+index_at mark.Dot = refl
+index_at mark.Star = refl
+index_at mark.Plus = refl
+index_at mark.Minus = refl
+index_at mark.Equal = refl
+index_at mark.Less = refl
+index_at mark.Greater = refl
 
-pub star_is : (t : TokenKind) → is_star t ≡ true → t ≡ Symbol mark.Star
-star_is (Symbol mark.Star) e = refl
-star_is _ e = absurd cc
+same_index : (m s : Mark) → mark_index m ≡ mark_index s → m ≡ s
+same_index m s e = sym (index_at m) ∙ ap mark_at e ∙ index_at s
 
-pub minus_is : (t : TokenKind) → is_minus t ≡ true → t ≡ Symbol mark.Minus
-minus_is (Symbol mark.Minus) e = refl
-minus_is _ e = absurd cc
+-- marks that are equal or not have numbers that are
+pub equal_marks : (m s : Mark) → m ≡ s → eqb (mark_index m) (mark_index s) ≡ true
+equal_marks m s e = eq-eqb (mark_index m) (mark_index s) (ap mark_index e)
 
-pub left_is : (t : TokenKind) → opens t ≡ true → t ≡ Symbol mark.Left
-left_is (Symbol mark.Left) e = refl
-left_is _ e = absurd cc
+pub other_marks : (m s : Mark) → (m ≡ s → ⊥) → eqb (mark_index m) (mark_index s) ≡ false
+other_marks m s other = ne_eqb (mark_index m) (mark_index s) (λ e. other (same_index m s e))
 
-pub right_is : (t : TokenKind) → closes t ≡ true → t ≡ Symbol mark.Right
-right_is (Symbol mark.Right) e = refl
-right_is _ e = absurd cc
+pub mark_is : (m : Mark) (t : TokenKind) → is_mark m t ≡ true → t ≡ Symbol m
+mark_is m (Name w) e = absurd cc
+mark_is m (Number n) e = absurd cc
+mark_is m (Text w) e = absurd cc
+mark_is m (Symbol s) e = ap (λ (k : Mark). Symbol k) (sym (same_index m s (eqb-true (mark_index m) (mark_index s) e)))
 
 pub behind_takes : (test : TokenKind → Bool) (u : TokenKind) → ((t : TokenKind) → test t ≡ true → t ≡ u) → (ts rest : Spelled) → behind test ts ≡ Some rest → ts ≡ u ∷ rest
 unfolding behind
@@ -91,9 +100,12 @@ behind_either f g (t ∷ ts) e = neither (f t) (g t) ts e
 pub word_takes : (w : List ℕ) (ts rest : Spelled) → behind (is_word w) ts ≡ Some rest → ts ≡ Name w ∷ rest
 word_takes w ts rest e = behind_takes (is_word w) (Name w) (word_is w) ts rest e
 
+pub mark_takes : (m : Mark) (ts rest : Spelled) → behind (is_mark m) ts ≡ Some rest → ts ≡ Symbol m ∷ rest
+mark_takes m ts rest e = behind_takes (is_mark m) (Symbol m) (mark_is m) ts rest e
+
 pub word_again : (w : List ℕ) (rest : Spelled) → behind (is_word w) (Name w ∷ rest) ≡ Some rest
 unfolding behind
-word_again w rest = rw (equal_bytes w) refl
+word_again w rest = rw ((bytes_eq-Decides w w).1 refl) refl
 
 -- ---- names, texts and numbers
 
@@ -123,16 +135,16 @@ pub text_again : (w : List ℕ) (rest : Spelled) → text_at (Text w ∷ rest) �
 unfolding text_at
 text_again w rest = refl
 
-pub names : Reads name_at name_of is_name none_further
+pub names : Parses name_at name_of is_name none_further
 names = record { takes = name_takes; again = λ w rest formed ends. name_again w rest formed }
 
 abbrev pub any_text : List ℕ → Bool
 any_text w = true
 
-pub texts : Reads text_at text_of any_text none_further
+pub texts : Parses text_at text_of any_text none_further
 texts = record { takes = λ ts x e. (refl, text_takes ts x e); again = λ w rest formed ends. text_again w rest }
 
--- what a reader of literals takes
+-- what a parser of literals takes
 abbrev TakesLiteral : Spelled → Literal × Spelled → Type 0
 TakesLiteral ts x = IsTrue (is_literal x.0) × (ts ≡ literal_spelled x.0 ++ x.1)
 
@@ -148,39 +160,43 @@ number_takes minus (Number n ∷ ts) x e =
 number_takes minus (Text w ∷ ts) x e = absurd cc
 number_takes minus (Symbol m ∷ ts) x e = absurd cc
 
-literal_takes : (ts : Spelled) (x : Literal × Spelled) → literal_at ts ≡ Some x → TakesLiteral ts x
-unfolding literal_at date_at
-literal_takes [] x e = absurd cc
-literal_takes (Name w ∷ ts) x e =
+plain_takes : (ts : Spelled) (x : Literal × Spelled) → plain_at ts ≡ Some x → TakesLiteral ts x
+unfolding plain_at date_at
+plain_takes [] x e = absurd cc
+plain_takes (Name w ∷ ts) x e =
     elim (chosen (bytes_eq w (codes "date")) (date_at ts) None (Some x) e) [
       | inl p ↦
           let a = bind_some (text_at ts) (λ t. Some (literal.Date t.0, t.1)) x p.1 in
           let t = text_takes ts a.0 a.1 in
-          let d = same_bytes w (codes "date") p.0 in
+          let d = (bytes_eq-Decides w (codes "date")).0 p.0 in
           subst (TakesLiteral (Name w ∷ ts)) (some_is (literal.Date a.0.0, a.0.1) x a.2) (refl, cc (d, t))
       | inr p ↦ absurd (cc (p.1))
     ]
-literal_takes (Number n ∷ ts) x e =
+plain_takes (Number n ∷ ts) x e =
     let g = number_takes false (Number n ∷ ts) x e in
     subst (TakesLiteral (Number n ∷ ts)) g.4 (g.2, g.3)
-literal_takes (Text w ∷ ts) x e = subst (TakesLiteral (Text w ∷ ts)) (some_is (literal.Text w, ts) x e) (refl, refl)
-literal_takes (Symbol m ∷ ts) x e =
-    elim (chosen (is_minus (Symbol m)) (number_at true ts) None (Some x) e) [
-      | inl p ↦
-          let g = number_takes true ts x p.1 in
-          let d = minus_is (Symbol m) p.0 in
-          subst (TakesLiteral (Symbol m ∷ ts)) g.4 (g.2, cc (d, g.3))
-      | inr p ↦ absurd (cc (p.1))
+plain_takes (Text w ∷ ts) x e = subst (TakesLiteral (Text w ∷ ts)) (some_is (literal.Text w, ts) x e) (refl, refl)
+plain_takes (Symbol m ∷ ts) x e = absurd cc
+
+literal_takes : (ts : Spelled) (x : Literal × Spelled) → literal_at ts ≡ Some x → TakesLiteral ts x
+unfolding literal_at
+literal_takes ts x e =
+    elim (cased (behind (is_mark mark.Minus) ts) (plain_at ts) (λ rest. number_at true rest) (Some x) e) [
+      | inl p ↦ plain_takes ts x p.1
+      | inr p ↦
+          let g = number_takes true p.0 x p.2 in
+          let minus = mark_takes mark.Minus ts p.0 p.1 in
+          subst (TakesLiteral ts) g.4 (g.2, cc (minus, g.3))
     ]
 
 literal_again : (a : Literal) (rest : Spelled) → IsTrue (is_literal a) → behind none_further rest ≡ None → literal_at (literal_spelled a ++ rest) ≡ Some (a, rest)
-unfolding literal_at date_at number_at text_at
+unfolding literal_at plain_at date_at number_at text_at behind
 literal_again (literal.Number false n) rest formed u = rw formed refl
 literal_again (literal.Number true n) rest formed u = rw formed refl
 literal_again (literal.Text w) rest formed u = refl
 literal_again (literal.Date w) rest formed u = refl
 
-pub literals : Reads literal_at literal_spelled is_literal none_further
+pub literals : Parses literal_at literal_spelled is_literal none_further
 literals = record { takes = literal_takes; again = literal_again }
 
 -- ---- kinds and PRIMARY KEY
@@ -189,12 +205,12 @@ kind_word_takes : (w : List ℕ) (k : Kind) → kind_of_word w ≡ Some k → Na
 unfolding kind_of_word
 kind_word_takes w k e =
     elim (chosen (bytes_eq w (codes "int")) (Some kind.Int) (cond (bytes_eq w (codes "text")) (Some kind.Text) (cond (bytes_eq w (codes "date")) (Some kind.Date) None)) (Some k) e) [
-      | inl p ↦ rw (← some_is kind.Int k p.1, same_bytes w (codes "int") p.0) refl
+      | inl p ↦ rw (← some_is kind.Int k p.1, (bytes_eq-Decides w (codes "int")).0 p.0) refl
       | inr q ↦ elim (chosen (bytes_eq w (codes "text")) (Some kind.Text) (cond (bytes_eq w (codes "date")) (Some kind.Date) None) (Some k) q.1) [
-        | inl p ↦ rw (← some_is kind.Text k p.1, same_bytes w (codes "text") p.0) refl
+        | inl p ↦ rw (← some_is kind.Text k p.1, (bytes_eq-Decides w (codes "text")).0 p.0) refl
         | inr r ↦
             let g = guard_some (bytes_eq w (codes "date")) kind.Date k r.1 in
-            rw (← g.1, same_bytes w (codes "date") g.0) refl
+            rw (← g.1, (bytes_eq-Decides w (codes "date")).0 g.0) refl
       ]
     ]
 
@@ -218,7 +234,7 @@ kind_again kind.Int rest formed ends = refl
 kind_again kind.Text rest formed ends = refl
 kind_again kind.Date rest formed ends = refl
 
-pub kinds : Reads kind_at kind_spelled any_kind none_further
+pub kinds : Parses kind_at kind_spelled any_kind none_further
 kinds = record { takes = kind_takes; again = kind_again }
 
 abbrev pub any_key : Bool → Bool
@@ -241,7 +257,7 @@ unfolding key_at
 key_again true rest formed ends = rw (word_again (codes "primary") (Name (codes "key") ∷ rest), word_again (codes "key") rest) refl
 key_again false rest formed ends = rw ends refl
 
-pub keys : Reads key_at key_mark any_key (is_word (codes "primary"))
+pub keys : Parses key_at key_mark any_key (is_word (codes "primary"))
 keys = record { takes = key_takes; again = key_again }
 
 -- ---- the number of LIMIT
@@ -267,5 +283,5 @@ limit_again : (n : ℕ) (rest : Spelled) → IsTrue (is_written_limit n) → beh
 unfolding limit_at
 limit_again n rest formed ends = rw formed refl
 
-pub limits : Reads limit_at number_spelled is_written_limit none_further
+pub limits : Parses limit_at number_spelled is_written_limit none_further
 limits = record { takes = limit_takes; again = limit_again }

@@ -1,4 +1,4 @@
--- Reading a statement from left to right. Source: this project's own.
+-- The parser of a statement. Source: this project's own.
 use Rattle.std.specs.Prelude.{ℕ, Bool, List, [], ◌∷◌, Option, Some, None, codes}
 use Rattle.blink_base.specs.declared.value.Kind.{Kind}
 use Rattle.star_lex.specs.declared.token.TokenKind.TheVariants.{Name, Number, Text, Symbol}
@@ -7,27 +7,27 @@ use Rattle.star_sql.specs.declared.ast.Literal.{Literal}
 use Rattle.star_sql.specs.declared.ast.Statement.{Statement}
 use Rattle.star_sql.specs.declared.ast.Statement.TheVariants as statement
 use Rattle.star_sql.specs.Spelling.{Spelled}
-use Rattle.star_sql.specs.Parsers.{Front, name_at, text_at, literal_at, kind_at, key_at, made_of, then_at, after_at, listed_at, enclosed_at, Form, by_word}
+use Rattle.star_sql.specs.Parsers.{ParseOf, name_at, text_at, literal_at, kind_at, key_at, made_of, then_at, after_at, listed_at, enclosed_at, Form, by_word}
 use Rattle.star_sql.specs.QueryParsers.{select_at}
 
 -- a column of CREATE
-unfoldable pub definition_at : Spelled → Front ColumnDef
+unfoldable pub definition_at : Spelled → ParseOf ColumnDef
 definition_at ts = made_of (λ (x : List ℕ × (Kind × Bool)). record { name = x.0; kind = x.1.0; key = x.1.1 }) (then_at name_at (then_at kind_at key_at) ts)
 
 -- a word and a name
-unfoldable pub named_at : List ℕ → Spelled → Front (List ℕ)
+unfoldable pub named_at : List ℕ → Spelled → ParseOf (List ℕ)
 named_at word ts = after_at word name_at ts
 
 -- a word and a name, and behind them a word and a text
-unfoldable pub filed_at : List ℕ → List ℕ → Spelled → Front (List ℕ × List ℕ)
+unfoldable pub filed_at : List ℕ → List ℕ → Spelled → ParseOf (List ℕ × List ℕ)
 filed_at first second ts = then_at (named_at first) (after_at second text_at) ts
 
 -- what stands behind CREATE
-unfoldable pub create_at : Spelled → Front (List ℕ × List ColumnDef)
+unfoldable pub create_at : Spelled → ParseOf (List ℕ × List ColumnDef)
 create_at ts = then_at (named_at (codes "table")) (enclosed_at definition_at) ts
 
 -- what stands behind INSERT
-unfoldable pub insert_at : Spelled → Front (List ℕ × List (List Literal))
+unfoldable pub insert_at : Spelled → ParseOf (List ℕ × List (List Literal))
 insert_at ts = then_at (named_at (codes "into")) (after_at (codes "values") (listed_at (enclosed_at literal_at))) ts
 
 -- a statement of two parts
@@ -51,11 +51,11 @@ forms =
     ∷ []
 
 -- what stands behind the first word of a statement
-unfoldable pub behind_word : List ℕ → Spelled → Front Statement
+unfoldable pub behind_word : List ℕ → Spelled → ParseOf Statement
 behind_word w ts = by_word forms w ts
 
 -- a statement
-unfoldable pub statement_at : Spelled → Front Statement
+unfoldable pub statement_at : Spelled → ParseOf Statement
 statement_at [] = None
 statement_at (Name w ∷ ts) = behind_word w ts
 statement_at (Number n ∷ ts) = None
@@ -63,7 +63,7 @@ statement_at (Text w ∷ ts) = None
 statement_at (Symbol m ∷ ts) = None
 
 -- what was read, where nothing is behind it
-abbrev pub alone : Front Statement → Option Statement
+abbrev pub alone : ParseOf Statement → Option Statement
 alone None = None
 alone (Some (s, [])) = Some s
 alone (Some (s, t ∷ ts)) = None

@@ -1,13 +1,13 @@
 // Columns as they are named.
 ghost use Rattle.star_sql.specs.ParseResult.{kinds_of};
 ghost use Rattle.star_sql.specs.Parsers.{Gives};
-ghost use Rattle.star_sql.specs.PredicateParsers.{column_behind, column_at};
+ghost use Rattle.star_sql.specs.PredicateParsers.{column_behind};
 
-use crate::lists::Front;
-use crate::tokens_at::{dot, name};
+use crate::parser::Parse;
+use crate::tokens_at::found_mark;
 use crate::{ColumnName, ParseFault};
 use blink_base::Word;
-use star_lex::Token;
+use star_lex::{Mark, Token};
 use std::alloc::Global;
 
 // A column behind its first name.
@@ -19,9 +19,9 @@ fn column_behind(
 ) -> Result<(ColumnName, &[Token]), ParseFault>
     ensures { Gives (λ x. (x.0, kinds_of x.1.now)) result (column_behind first (kinds_of tokens.now)) }
 {
-    match dot(tokens) {
+    match found_mark(Mark::Dot, tokens) {
         Some(behind) => {
-            let (column, rest) = name(alloc, behind)?;
+            let (column, rest) = Word::parse(alloc, behind)?;
             Ok((
                 ColumnName {
                     table: Some(first),
@@ -40,30 +40,14 @@ fn column_behind(
     }
 }
 
-#[tactic(auto, unfolding(crate::specs::PredicateParsers::column_at))]
-pub(crate) fn column(alloc: Global, tokens: &[Token]) -> Result<(ColumnName, &[Token]), ParseFault>
-    ensures { Gives (λ x. (x.0, kinds_of x.1.now)) result (column_at (kinds_of tokens.now)) }
-{
-    let (first, rest) = name(alloc, tokens)?;
-    column_behind(alloc, first, rest)
-}
-
-impl Front for ColumnName {
+impl Parse for ColumnName {
     ghost use Rattle.star_sql.specs.PredicateParsers.{column_at};
 
-    ghost reads = { column_at };
+    ghost parses = { column_at };
 
-    fn front(alloc: Global, tokens: &[Token]) -> Result<(ColumnName, &[Token]), ParseFault> {
-        column(alloc, tokens)
-    }
-}
-
-impl Front for Word {
-    ghost use Rattle.star_sql.specs.Parsers.{name_at};
-
-    ghost reads = { name_at };
-
-    fn front(alloc: Global, tokens: &[Token]) -> Result<(Word, &[Token]), ParseFault> {
-        name(alloc, tokens)
+    #[tactic(auto, unfolding(crate::specs::PredicateParsers::column_at))]
+    fn parse(alloc: Global, tokens: &[Token]) -> Result<(ColumnName, &[Token]), ParseFault> {
+        let (first, rest) = Word::parse(alloc, tokens)?;
+        column_behind(alloc, first, rest)
     }
 }

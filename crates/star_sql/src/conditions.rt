@@ -4,12 +4,12 @@ ghost use Rattle.star_sql.specs.ParseResult.{kinds_of};
 ghost use Rattle.star_sql.specs.Parsers.{Gives};
 ghost use Rattle.star_sql.specs.ConditionParsers.{primary_at, conj_at, cond_at};
 
-use crate::lists::Front;
+use crate::parser::Parse;
 use crate::predicates::test;
-use crate::tokens_at::{found_left, found_word, right};
+use crate::tokens_at::{found_mark, found_word, mark};
 use crate::{Cond, Conj, ParseFault, Primary};
 use blink_base::{Boxed, List};
-use star_lex::Token;
+use star_lex::{Mark, Token};
 use std::alloc::Global;
 
 // A test, or a condition in parentheses, in which `depth` more parentheses may be open at once.
@@ -18,7 +18,7 @@ use std::alloc::Global;
 fn primary(alloc: Global, depth: usize, tokens: &[Token]) -> Result<(Primary, &[Token]), ParseFault>
     ensures { Gives (λ x. (x.0, kinds_of x.1.now)) result (primary_at (cond_at depth) (kinds_of tokens.now)) }
 {
-    let Some(behind) = found_left(tokens) else {
+    let Some(behind) = found_mark(Mark::Left, tokens) else {
         let (test, rest) = test(alloc, tokens)?;
         return Ok((Primary::Test(test), rest));
     };
@@ -26,7 +26,7 @@ fn primary(alloc: Global, depth: usize, tokens: &[Token]) -> Result<(Primary, &[
         return Err(ParseFault::Syntax);
     }
     let (inner, rest) = condition(alloc, depth - 1, behind)?;
-    let rest = right(rest)?;
+    let rest = mark(Mark::Right, rest)?;
     Ok((Primary::Group(Boxed::new(alloc, inner)?), rest))
 }
 
@@ -76,14 +76,14 @@ fn condition(alloc: Global, depth: usize, tokens: &[Token]) -> Result<(Cond, &[T
     Ok((Cond { any }, rest))
 }
 
-impl Front for Cond {
+impl Parse for Cond {
     ghost use Rattle.star_sql.specs.ConditionParsers.{condition_at};
 
-    ghost reads = { condition_at };
+    ghost parses = { condition_at };
 
     // No more parentheses can be open than there are tokens.
     #[tactic(auto, unfolding(crate::specs::ConditionParsers::condition_at))]
-    fn front(alloc: Global, tokens: &[Token]) -> Result<(Cond, &[Token]), ParseFault> {
+    fn parse(alloc: Global, tokens: &[Token]) -> Result<(Cond, &[Token]), ParseFault> {
         condition(alloc, tokens.len(), tokens)
     }
 }

@@ -1,11 +1,11 @@
 // The items of SELECT.
 ghost use Rattle.star_sql.specs.ParseResult.{kinds_of};
 ghost use Rattle.star_sql.specs.Parsers.{Gives};
-ghost use Rattle.star_sql.specs.QueryParsers.{joined_at, expr_at, aggregate_at, what_at, item_at};
+ghost use Rattle.star_sql.specs.QueryParsers.{joined_at, aggregate_at, what_at};
 
-use crate::columns::column;
-use crate::lists::{Front, inside, optional};
-use crate::tokens_at::{is_opened, left, right, star};
+use crate::parser::Parse;
+use crate::sequences::{inside, optional};
+use crate::tokens_at::{found_mark, mark};
 use crate::{ColumnName, Expr, Item, ParseFault, What};
 use blink_base::Word;
 use star_lex::{Mark, Token, TokenKind};
@@ -20,56 +20,30 @@ fn joined(
 ) -> Result<(Expr, &[Token]), ParseFault>
     ensures { Gives (λ x. (x.0, kinds_of x.1.now)) result (joined_at first (kinds_of tokens.now)) }
 {
-    match tokens {
-        [
-            Token {
-                kind: TokenKind::Symbol(Mark::Star),
-                ..
-            },
-            behind @ ..,
-        ] => {
-            let (second, rest) = column(alloc, behind)?;
-            Ok((Expr::Times(first, second), rest))
-        }
-        [
-            Token {
-                kind: TokenKind::Symbol(Mark::Plus),
-                ..
-            },
-            behind @ ..,
-        ] => {
-            let (second, rest) = column(alloc, behind)?;
-            Ok((Expr::Plus(first, second), rest))
-        }
-        [
-            Token {
-                kind: TokenKind::Symbol(Mark::Minus),
-                ..
-            },
-            behind @ ..,
-        ] => {
-            let (second, rest) = column(alloc, behind)?;
-            Ok((Expr::Minus(first, second), rest))
-        }
-        _ => Ok((Expr::One(first), tokens)),
+    if let Some(behind) = found_mark(Mark::Star, tokens) {
+        let (second, rest) = ColumnName::parse(alloc, behind)?;
+        return Ok((Expr::Times(first, second), rest));
     }
+    if let Some(behind) = found_mark(Mark::Plus, tokens) {
+        let (second, rest) = ColumnName::parse(alloc, behind)?;
+        return Ok((Expr::Plus(first, second), rest));
+    }
+    if let Some(behind) = found_mark(Mark::Minus, tokens) {
+        let (second, rest) = ColumnName::parse(alloc, behind)?;
+        return Ok((Expr::Minus(first, second), rest));
+    }
+    Ok((Expr::One(first), tokens))
 }
 
-#[tactic(auto, unfolding(crate::specs::QueryParsers::expr_at))]
-fn expr(alloc: Global, tokens: &[Token]) -> Result<(Expr, &[Token]), ParseFault>
-    ensures { Gives (λ x. (x.0, kinds_of x.1.now)) result (expr_at (kinds_of tokens.now)) }
-{
-    let (first, rest) = column(alloc, tokens)?;
-    joined(alloc, first, rest)
-}
-
-impl Front for Expr {
+impl Parse for Expr {
     ghost use Rattle.star_sql.specs.QueryParsers.{expr_at};
 
-    ghost reads = { expr_at };
+    ghost parses = { expr_at };
 
-    fn front(alloc: Global, tokens: &[Token]) -> Result<(Expr, &[Token]), ParseFault> {
-        expr(alloc, tokens)
+    #[tactic(auto, unfolding(crate::specs::QueryParsers::expr_at))]
+    fn parse(alloc: Global, tokens: &[Token]) -> Result<(Expr, &[Token]), ParseFault> {
+        let (first, rest) = ColumnName::parse(alloc, tokens)?;
+        joined(alloc, first, rest)
     }
 }
 
@@ -84,8 +58,8 @@ fn aggregate<'a>(
 {
     match word {
         "count" => {
-            let rest = star(left(tokens)?)?;
-            Ok((What::Count, right(rest)?))
+            let rest = mark(Mark::Star, mark(Mark::Left, tokens)?)?;
+            Ok((What::Count, mark(Mark::Right, rest)?))
         }
         "sum" => {
             let (expr, rest) = inside::<Expr>(alloc, tokens)?;
@@ -119,31 +93,25 @@ fn what(alloc: Global, tokens: &[Token]) -> Result<(What, &[Token]), ParseFault>
             },
             behind @ ..,
         ] => {
-            if is_opened(behind) {
+            if found_mark(Mark::Left, behind).is_some() {
                 return aggregate(alloc, word.as_str(), behind);
             }
-            let (column, rest) = column(alloc, tokens)?;
+            let (column, rest) = ColumnName::parse(alloc, tokens)?;
             Ok((What::Column(column), rest))
         }
         _ => Err(ParseFault::Syntax),
     }
 }
 
-#[tactic(auto, unfolding(crate::specs::QueryParsers::item_at))]
-fn item(alloc: Global, tokens: &[Token]) -> Result<(Item, &[Token]), ParseFault>
-    ensures { Gives (λ x. (x.0, kinds_of x.1.now)) result (item_at (kinds_of tokens.now)) }
-{
-    let (what, rest) = what(alloc, tokens)?;
-    let (name, rest) = optional::<Word>(alloc, "as", rest)?;
-    Ok((Item { what, name }, rest))
-}
-
-impl Front for Item {
+impl Parse for Item {
     ghost use Rattle.star_sql.specs.QueryParsers.{item_at};
 
-    ghost reads = { item_at };
+    ghost parses = { item_at };
 
-    fn front(alloc: Global, tokens: &[Token]) -> Result<(Item, &[Token]), ParseFault> {
-        item(alloc, tokens)
+    #[tactic(auto, unfolding(crate::specs::QueryParsers::item_at))]
+    fn parse(alloc: Global, tokens: &[Token]) -> Result<(Item, &[Token]), ParseFault> {
+        let (what, rest) = what(alloc, tokens)?;
+        let (name, rest) = optional::<Word>(alloc, "as", rest)?;
+        Ok((Item { what, name }, rest))
     }
 }

@@ -1,4 +1,8 @@
 //! Statements as they are written: their types, their spelling, and the parser that is its inverse.
+//!
+//! Contracts see a statement as its tree and tokens by their kinds. [`parse`] answers the one well formed statement that
+//! the tokens are the spelling of; what can stand first in some tokens implements `Parse`, and lists, options and
+//! parentheses are parsed by the functions of `sequences` at any such type.
 #![tactic(auto)]
 
 mod ast;
@@ -9,13 +13,14 @@ pub mod examples;
 mod fault;
 mod items;
 mod laws;
-mod lists;
 mod literals;
-mod parsing;
+mod parser;
 mod predicates;
 mod select;
+mod sequences;
 mod statements;
 mod tokens_at;
+mod whole_statement;
 mod words;
 
 pub use ast::{
@@ -24,9 +29,4 @@ pub use ast::{
 };
 pub use fault::ParseFault;
 pub use laws::{depth_by_prefixes, one_spelling};
-pub use parsing::parse;
-
-#[cfg(test)]
-mod select_tests;
-#[cfg(test)]
-mod tests;
+pub use whole_statement::parse;

@@ -1,9 +1,10 @@
 // Numbers, texts and dates as they are written.
 ghost use Rattle.star_sql.specs.ParseResult.{kinds_of};
-ghost use Rattle.star_sql.specs.Parsers.{Gives, number_at, date_at, literal_at, limit_at};
+ghost use Rattle.star_sql.specs.Parsers.{Gives, number_at, date_at, plain_at};
 
-use crate::lists::{Front, enclosed};
-use crate::tokens_at::text;
+use crate::parser::Parse;
+use crate::sequences::enclosed;
+use crate::tokens_at::{found_mark, text};
 use crate::{Literal, ParseFault};
 use blink_base::{List, NUMBER_BOUND};
 use star_lex::{Mark, Token, TokenKind};
@@ -41,9 +42,10 @@ fn date(alloc: Global, tokens: &[Token]) -> Result<(Literal, &[Token]), ParseFau
     Ok((Literal::Date(date), rest))
 }
 
-#[tactic(auto, unfolding(crate::specs::Parsers::literal_at))]
-pub(crate) fn literal(alloc: Global, tokens: &[Token]) -> Result<(Literal, &[Token]), ParseFault>
-    ensures { Gives (λ x. (x.0, kinds_of x.1.now)) result (literal_at (kinds_of tokens.now)) }
+// A literal without minus.
+#[tactic(auto, unfolding(crate::specs::Parsers::plain_at))]
+fn plain(alloc: Global, tokens: &[Token]) -> Result<(Literal, &[Token]), ParseFault>
+    ensures { Gives (λ x. (x.0, kinds_of x.1.now)) result (plain_at (kinds_of tokens.now)) }
 {
     match tokens {
         [
@@ -53,13 +55,6 @@ pub(crate) fn literal(alloc: Global, tokens: &[Token]) -> Result<(Literal, &[Tok
             },
             ..
         ] => number(false, tokens),
-        [
-            Token {
-                kind: TokenKind::Symbol(Mark::Minus),
-                ..
-            },
-            rest @ ..,
-        ] => number(true, rest),
         [
             Token {
                 kind: TokenKind::Text(word),
@@ -78,49 +73,47 @@ pub(crate) fn literal(alloc: Global, tokens: &[Token]) -> Result<(Literal, &[Tok
     }
 }
 
-impl Front for Literal {
+impl Parse for Literal {
     ghost use Rattle.star_sql.specs.Parsers.{literal_at};
 
-    ghost reads = { literal_at };
+    ghost parses = { literal_at };
 
-    fn front(alloc: Global, tokens: &[Token]) -> Result<(Literal, &[Token]), ParseFault> {
-        literal(alloc, tokens)
+    #[tactic(auto, unfolding(crate::specs::Parsers::literal_at))]
+    fn parse(alloc: Global, tokens: &[Token]) -> Result<(Literal, &[Token]), ParseFault> {
+        match found_mark(Mark::Minus, tokens) {
+            Some(rest) => number(true, rest),
+            None => plain(alloc, tokens),
+        }
     }
 }
 
-impl Front for List<Literal> {
+impl Parse for List<Literal> {
     ghost use Rattle.star_sql.specs.Parsers.{enclosed_at, literal_at};
 
-    ghost reads = { enclosed_at literal_at };
+    ghost parses = { enclosed_at literal_at };
 
-    fn front(alloc: Global, tokens: &[Token]) -> Result<(List<Literal>, &[Token]), ParseFault> {
+    fn parse(alloc: Global, tokens: &[Token]) -> Result<(List<Literal>, &[Token]), ParseFault> {
         enclosed(alloc, tokens)
     }
 }
 
 // The number of LIMIT.
-#[tactic(auto, unfolding(crate::specs::Parsers::limit_at))]
-fn limit(tokens: &[Token]) -> Result<(u64, &[Token]), ParseFault>
-    ensures { Gives (λ x. (x.0, kinds_of x.1.now)) result (limit_at (kinds_of tokens.now)) }
-{
-    match tokens {
-        [
-            Token {
-                kind: TokenKind::Number(value),
-                ..
-            },
-            rest @ ..,
-        ] if 0 <= *value && *value < NUMBER_BOUND => Ok((*value as u64, rest)),
-        _ => Err(ParseFault::Syntax),
-    }
-}
-
-impl Front for u64 {
+impl Parse for u64 {
     ghost use Rattle.star_sql.specs.Parsers.{limit_at};
 
-    ghost reads = { limit_at };
+    ghost parses = { limit_at };
 
-    fn front(_alloc: Global, tokens: &[Token]) -> Result<(u64, &[Token]), ParseFault> {
-        limit(tokens)
+    #[tactic(auto, unfolding(crate::specs::Parsers::limit_at))]
+    fn parse(_alloc: Global, tokens: &[Token]) -> Result<(u64, &[Token]), ParseFault> {
+        match tokens {
+            [
+                Token {
+                    kind: TokenKind::Number(value),
+                    ..
+                },
+                rest @ ..,
+            ] if 0 <= *value && *value < NUMBER_BOUND => Ok((*value as u64, rest)),
+            _ => Err(ParseFault::Syntax),
+        }
     }
 }

@@ -4,9 +4,8 @@ ghost use Rattle.star_sql.specs.ParseResult.{kinds_of};
 ghost use Rattle.star_sql.specs.Parsers.{Gives};
 ghost use Rattle.star_sql.specs.PredicateParsers.{op_of, compared_at, bounds_at, worded_at, tested_at, test_at};
 
-use crate::columns::column;
-use crate::lists::enclosed;
-use crate::literals::literal;
+use crate::parser::Parse;
+use crate::sequences::enclosed;
 use crate::tokens_at::{text, word};
 use crate::{ColumnName, Literal, ParseFault, TestWords};
 use blink_base::Op;
@@ -38,7 +37,7 @@ fn compared(
 ) -> Result<(TestWords, &[Token]), ParseFault>
     ensures { Gives (λ x. (x.0, kinds_of x.1.now)) result (compared_at left op (kinds_of tokens.now)) }
 {
-    match literal(alloc, tokens) {
+    match Literal::parse(alloc, tokens) {
         Ok((literal, rest)) => Ok((
             TestWords::Compare {
                 column: left,
@@ -48,7 +47,7 @@ fn compared(
             rest,
         )),
         Err(ParseFault::Syntax) => {
-            let (right, rest) = column(alloc, tokens)?;
+            let (right, rest) = ColumnName::parse(alloc, tokens)?;
             Ok((TestWords::Columns { left, op, right }, rest))
         }
         Err(fault) => Err(fault),
@@ -60,8 +59,8 @@ fn compared(
 fn bounds(alloc: Global, tokens: &[Token]) -> Result<(Literal, Literal, &[Token]), ParseFault>
     ensures { Gives (λ x. ((x.0, x.1), kinds_of x.2.now)) result (bounds_at (kinds_of tokens.now)) }
 {
-    let (low, rest) = literal(alloc, tokens)?;
-    let (high, rest) = literal(alloc, word("and", rest)?)?;
+    let (low, rest) = Literal::parse(alloc, tokens)?;
+    let (high, rest) = Literal::parse(alloc, word("and", rest)?)?;
     Ok((low, high, rest))
 }
 
@@ -127,6 +126,6 @@ fn tested(
 pub(crate) fn test(alloc: Global, tokens: &[Token]) -> Result<(TestWords, &[Token]), ParseFault>
     ensures { Gives (λ x. (x.0, kinds_of x.1.now)) result (test_at (kinds_of tokens.now)) }
 {
-    let (column, rest) = column(alloc, tokens)?;
+    let (column, rest) = ColumnName::parse(alloc, tokens)?;
     tested(alloc, column, rest)
 }

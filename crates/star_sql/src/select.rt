@@ -2,10 +2,10 @@
 ghost use Rattle.std.specs.Prelude.{◌≡◌, Some};
 ghost use Rattle.star_sql.specs.ParseResult.{kinds_of};
 ghost use Rattle.star_sql.specs.Parsers.{Gives};
-ghost use Rattle.star_sql.specs.QueryParsers.{way_at, order_at, end_at, select_at};
+ghost use Rattle.star_sql.specs.QueryParsers.{way_at, select_at};
 
-use crate::columns::column;
-use crate::lists::{Front, listed, listed_by, optional};
+use crate::parser::Parse;
+use crate::sequences::{listed, listed_by, optional};
 use crate::tokens_at::{found_word, word};
 use crate::{ColumnName, Cond, Item, OrderKey, ParseFault, Select, Way};
 use blink_base::Word;
@@ -26,22 +26,16 @@ fn way(tokens: &[Token]) -> (Way, &[Token])
     }
 }
 
-#[tactic(auto, unfolding(crate::specs::QueryParsers::order_at))]
-fn order_key(alloc: Global, tokens: &[Token]) -> Result<(OrderKey, &[Token]), ParseFault>
-    ensures { Gives (λ x. (x.0, kinds_of x.1.now)) result (order_at (kinds_of tokens.now)) }
-{
-    let (column, rest) = column(alloc, tokens)?;
-    let (way, rest) = way(rest);
-    Ok((OrderKey { column, way }, rest))
-}
-
-impl Front for OrderKey {
+impl Parse for OrderKey {
     ghost use Rattle.star_sql.specs.QueryParsers.{order_at};
 
-    ghost reads = { order_at };
+    ghost parses = { order_at };
 
-    fn front(alloc: Global, tokens: &[Token]) -> Result<(OrderKey, &[Token]), ParseFault> {
-        order_key(alloc, tokens)
+    #[tactic(auto, unfolding(crate::specs::QueryParsers::order_at))]
+    fn parse(alloc: Global, tokens: &[Token]) -> Result<(OrderKey, &[Token]), ParseFault> {
+        let (column, rest) = ColumnName::parse(alloc, tokens)?;
+        let (way, rest) = way(rest);
+        Ok((OrderKey { column, way }, rest))
     }
 }
 

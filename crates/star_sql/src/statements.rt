@@ -2,33 +2,28 @@
 ghost use Rattle.star_sql.specs.declared.ast.Statement.TheVariants as statement;
 ghost use Rattle.star_sql.specs.ParseResult.{kinds_of};
 ghost use Rattle.star_sql.specs.Parsers.{Gives, made_of};
-ghost use Rattle.star_sql.specs.StatementParsers.{definition_at, named_at, filed_at, create_at, insert_at, of_both, behind_word, statement_at};
+ghost use Rattle.star_sql.specs.StatementParsers.{named_at, filed_at, create_at, insert_at, of_both, behind_word, statement_at};
 
-use crate::lists::{Front, enclosed, listed};
+use crate::parser::Parse;
 use crate::select::select;
-use crate::tokens_at::{key, kind, name, text, word};
+use crate::sequences::{enclosed, listed};
+use crate::tokens_at::{key, kind, text, word};
 use crate::{ColumnDef, Literal, ParseFault, Statement};
 use blink_base::{List, Word};
 use star_lex::{Token, TokenKind};
 use std::alloc::Global;
 
-#[tactic(auto, unfolding(crate::specs::StatementParsers::definition_at))]
-fn definition(alloc: Global, tokens: &[Token]) -> Result<(ColumnDef, &[Token]), ParseFault>
-    ensures { Gives (λ x. (x.0, kinds_of x.1.now)) result (definition_at (kinds_of tokens.now)) }
-{
-    let (name, rest) = name(alloc, tokens)?;
-    let (kind, rest) = kind(rest)?;
-    let (key, rest) = key(rest)?;
-    Ok((ColumnDef { name, kind, key }, rest))
-}
-
-impl Front for ColumnDef {
+impl Parse for ColumnDef {
     ghost use Rattle.star_sql.specs.StatementParsers.{definition_at};
 
-    ghost reads = { definition_at };
+    ghost parses = { definition_at };
 
-    fn front(alloc: Global, tokens: &[Token]) -> Result<(ColumnDef, &[Token]), ParseFault> {
-        definition(alloc, tokens)
+    #[tactic(auto, unfolding(crate::specs::StatementParsers::definition_at))]
+    fn parse(alloc: Global, tokens: &[Token]) -> Result<(ColumnDef, &[Token]), ParseFault> {
+        let (name, rest) = Word::parse(alloc, tokens)?;
+        let (kind, rest) = kind(rest)?;
+        let (key, rest) = key(rest)?;
+        Ok((ColumnDef { name, kind, key }, rest))
     }
 }
 
@@ -40,7 +35,7 @@ fn named<'a>(
 ) -> Result<(Word, &'a [Token]), ParseFault>
     ensures { Gives (λ x. (x.0, kinds_of x.1.now)) result (named_at first.now (kinds_of tokens.now)) }
 {
-    name(alloc, word(first, tokens)?)
+    Word::parse(alloc, word(first, tokens)?)
 }
 
 #[tactic(auto, unfolding(crate::specs::StatementParsers::filed_at))]
@@ -108,7 +103,7 @@ fn behind_word<'a>(
             Ok((Statement::Select(query), rest))
         }
         "describe" => {
-            let (name, rest) = name(alloc, tokens)?;
+            let (name, rest) = Word::parse(alloc, tokens)?;
             Ok((Statement::Describe { name }, rest))
         }
         "explain" => {

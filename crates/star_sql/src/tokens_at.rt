@@ -1,27 +1,40 @@
-// What stands at the front of some tokens, and the tokens behind it.
+// What stands first in some tokens, and the tokens behind it: words, marks, names, texts and kinds.
 ghost use Rattle.std.specs.Prelude.{◌≡◌};
-ghost use Rattle.star_sql.specs.ParseResult.{kinds_of, opens, closes};
-ghost use Rattle.star_sql.specs.Parsers.{Finds, Gives, behind, is_word, is_comma, is_dot, is_star, name_at, text_at, kind_at, key_at};
-ghost use Rattle.star_sql.specs.QueryParsers.{is_opened};
+ghost use Rattle.star_sql.specs.ParseResult.{kinds_of};
+ghost use Rattle.star_sql.specs.Parsers.{Finds, Gives, behind, is_word, is_mark, text_at, kind_at, key_at};
 
 use crate::ParseFault;
+use crate::parser::Parse;
 use crate::words::{is_name, kind_of_word};
 use blink_base::{Kind, Word};
 use star_lex::{Mark, Token, TokenKind};
 use std::alloc::Global;
+
+fn is_word(word: &str, kind: &TokenKind) -> bool
+    ensures { result ≡ is_word word.now kind.now }
+{
+    match kind {
+        TokenKind::Name(name) => name.as_str() == word,
+        _ => false,
+    }
+}
+
+#[tactic(auto, using(crate::proofs::TokenLemmas::equal_marks, crate::proofs::TokenLemmas::other_marks))]
+fn is_mark(mark: Mark, kind: &TokenKind) -> bool
+    ensures { result ≡ is_mark mark kind.now }
+{
+    match kind {
+        TokenKind::Symbol(found) => mark == *found,
+        _ => false,
+    }
+}
 
 #[tactic(auto, unfolding(crate::specs::Parsers::behind))]
 pub(crate) fn found_word<'a>(word: &str, tokens: &'a [Token]) -> Option<&'a [Token]>
     ensures { Finds (λ r. kinds_of r.now) result (behind (is_word word.now) (kinds_of tokens.now)) }
 {
     match tokens {
-        [
-            Token {
-                kind: TokenKind::Name(name),
-                ..
-            },
-            rest @ ..,
-        ] if name.as_str() == word => Some(rest),
+        [token, rest @ ..] if is_word(word, &token.kind) => Some(rest),
         _ => None,
     }
 }
@@ -33,120 +46,38 @@ pub(crate) fn word<'a>(word: &str, tokens: &'a [Token]) -> Result<&'a [Token], P
 }
 
 #[tactic(auto, unfolding(crate::specs::Parsers::behind))]
-pub(crate) fn comma(tokens: &[Token]) -> Option<&[Token]>
-    ensures { Finds (λ r. kinds_of r.now) result (behind is_comma (kinds_of tokens.now)) }
+pub(crate) fn found_mark(mark: Mark, tokens: &[Token]) -> Option<&[Token]>
+    ensures { Finds (λ r. kinds_of r.now) result (behind (is_mark mark) (kinds_of tokens.now)) }
 {
     match tokens {
-        [
-            Token {
-                kind: TokenKind::Symbol(Mark::Comma),
-                ..
-            },
-            rest @ ..,
-        ] => Some(rest),
+        [token, rest @ ..] if is_mark(mark, &token.kind) => Some(rest),
         _ => None,
     }
 }
 
-#[tactic(auto, unfolding(crate::specs::Parsers::behind))]
-pub(crate) fn dot(tokens: &[Token]) -> Option<&[Token]>
-    ensures { Finds (λ r. kinds_of r.now) result (behind is_dot (kinds_of tokens.now)) }
+pub(crate) fn mark(mark: Mark, tokens: &[Token]) -> Result<&[Token], ParseFault>
+    ensures { Gives (λ r. kinds_of r.now) result (behind (is_mark mark) (kinds_of tokens.now)) }
 {
-    match tokens {
-        [
-            Token {
-                kind: TokenKind::Symbol(Mark::Dot),
-                ..
-            },
-            rest @ ..,
-        ] => Some(rest),
-        _ => None,
-    }
+    found_mark(mark, tokens).ok_or(ParseFault::Syntax)
 }
 
-#[tactic(auto, unfolding(crate::specs::Parsers::behind))]
-pub(crate) fn star(tokens: &[Token]) -> Result<&[Token], ParseFault>
-    ensures { Gives (λ r. kinds_of r.now) result (behind is_star (kinds_of tokens.now)) }
-{
-    match tokens {
-        [
-            Token {
-                kind: TokenKind::Symbol(Mark::Star),
-                ..
-            },
-            rest @ ..,
-        ] => Ok(rest),
-        _ => Err(ParseFault::Syntax),
-    }
-}
+impl Parse for Word {
+    ghost use Rattle.star_sql.specs.Parsers.{name_at};
 
-// Whether a parenthesis is opened there.
-pub(crate) fn is_opened(tokens: &[Token]) -> bool
-    ensures { result ≡ is_opened (kinds_of tokens.now) }
-{
-    match tokens {
-        [
-            Token {
-                kind: TokenKind::Symbol(Mark::Left),
-                ..
-            },
-            ..
-        ] => true,
-        _ => false,
-    }
-}
+    ghost parses = { name_at };
 
-#[tactic(auto, unfolding(crate::specs::Parsers::behind))]
-pub(crate) fn found_left(tokens: &[Token]) -> Option<&[Token]>
-    ensures { Finds (λ r. kinds_of r.now) result (behind opens (kinds_of tokens.now)) }
-{
-    match tokens {
-        [
-            Token {
-                kind: TokenKind::Symbol(Mark::Left),
-                ..
-            },
-            rest @ ..,
-        ] => Some(rest),
-        _ => None,
-    }
-}
-
-pub(crate) fn left(tokens: &[Token]) -> Result<&[Token], ParseFault>
-    ensures { Gives (λ r. kinds_of r.now) result (behind opens (kinds_of tokens.now)) }
-{
-    found_left(tokens).ok_or(ParseFault::Syntax)
-}
-
-#[tactic(auto, unfolding(crate::specs::Parsers::behind))]
-pub(crate) fn right(tokens: &[Token]) -> Result<&[Token], ParseFault>
-    ensures { Gives (λ r. kinds_of r.now) result (behind closes (kinds_of tokens.now)) }
-{
-    match tokens {
-        [
-            Token {
-                kind: TokenKind::Symbol(Mark::Right),
-                ..
-            },
-            rest @ ..,
-        ] => Ok(rest),
-        _ => Err(ParseFault::Syntax),
-    }
-}
-
-#[tactic(auto, unfolding(crate::specs::Parsers::name_at))]
-pub(crate) fn name(alloc: Global, tokens: &[Token]) -> Result<(Word, &[Token]), ParseFault>
-    ensures { Gives (λ x. (x.0, kinds_of x.1.now)) result (name_at (kinds_of tokens.now)) }
-{
-    match tokens {
-        [
-            Token {
-                kind: TokenKind::Name(word),
-                ..
-            },
-            rest @ ..,
-        ] if is_name(word.as_str()) => { Ok((word.copy(alloc)?, rest)) }
-        _ => Err(ParseFault::Syntax),
+    #[tactic(auto, unfolding(crate::specs::Parsers::name_at))]
+    fn parse(alloc: Global, tokens: &[Token]) -> Result<(Word, &[Token]), ParseFault> {
+        match tokens {
+            [
+                Token {
+                    kind: TokenKind::Name(word),
+                    ..
+                },
+                rest @ ..,
+            ] if is_name(word.as_str()) => { Ok((word.copy(alloc)?, rest)) }
+            _ => Err(ParseFault::Syntax),
+        }
     }
 }
 

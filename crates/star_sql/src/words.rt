@@ -2,22 +2,11 @@
 ghost use Rattle.std.specs.Prelude.{◌≡◌, not};
 ghost use Rattle.std.specs.List.{list_all};
 ghost use Rattle.std.specs.Char.{is_ascii_uppercase};
-ghost use Rattle.blink_base.specs.Identifiers.{begins_name, is_name_byte, is_kept_word, is_reserved, is_name};
+ghost use Rattle.blink_base.specs.Identifiers.{is_name_byte, is_kept_word, is_reserved, is_name};
 ghost use Rattle.star_sql.specs.Parsers.{kind_of_word};
 
-use blink_base::Kind;
-
-fn begins_name(byte: u8) -> bool
-    ensures { result ≡ begins_name byte }
-{
-    byte.is_ascii_lowercase() || byte.is_ascii_uppercase() || byte == b'_'
-}
-
-fn is_name_byte(byte: u8) -> bool
-    ensures { result ≡ is_name_byte byte }
-{
-    begins_name(byte) || byte.is_ascii_digit()
-}
+use blink_base::{Kind, LONGEST_INPUT};
+use star_lex::{begins_name, is_name_byte};
 
 fn are_name_bytes(bytes: &[u8]) -> bool
     ensures { result ≡ list_all is_name_byte bytes.now }
@@ -40,7 +29,7 @@ fn is_kept_word(bytes: &[u8]) -> bool
             begins_name(*first)
                 && are_name_bytes(behind)
                 && has_no_capital(bytes)
-                && bytes.len() <= 67_108_864
+                && bytes.len() as u64 <= LONGEST_INPUT
         }
     }
 }

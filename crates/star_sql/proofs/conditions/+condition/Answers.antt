@@ -1,4 +1,4 @@
-use Rattle.std.proofs.Common.{◌<◌, ◌≤◌, length, ap, arith}
+use Rattle.std.proofs.Common.{◌≡◌, ◌<◌, ◌≤◌, ◌-◌, suc, length, ap, refl, arith}
 use Rattle.std.specs.Prelude.{codes}
 use Rattle.std.proofs.lemmas.Result.{err_from_is_err_and}
 use Rattle.star_sql.specs.ParseResult.{kinds_of}
@@ -54,3 +54,10 @@ unfolding conj_at
 conjunction-returns t c =
     let le : length c.in_ok-first.behind_first.now ≤ c.loop.counter = omega arith in
     ap (made_of conj_of) (is_done (is_word (codes "and")) (primary_at (cond_at c.args.depth)) c.loop.all (length c.in_ok-first.behind_first.now) c.loop.counter (kinds_of c.loop.rest.now) _ le c.loop.invariant)
+
+pub primary-returns : goal.primary-returns
+unfolding primary_at
+primary-returns t c =
+    let one : suc (c.args.depth - 1) ≡ c.args.depth = omega arith in
+    let inner = rw one at c.in_ok-inner.ensures in
+    rw (c.in-Some.ensures, inner, c.in_ok-rest.ensures, c.in_ok-new.ensures) refl
