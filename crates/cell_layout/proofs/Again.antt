@@ -17,10 +17,10 @@ use Rattle.cell_layout.specs.Layout.{cell_cmp, same_cell, cell_of, cells_of}
 use Rattle.cell_layout.specs.Valid.{are_codes, is_row_count, is_cell, is_rest_row}
 use Rattle.blink_base.specs.RowFits.{fits}
 use Rattle.std.proofs.lemmas.Cmp.{nat_list_cmp_total}
-use Rattle.cell_layout.proofs.Passed.{all_weaker}
+use Rattle.blink_lists.proofs.GroupLemmas.{all-imply}
 use Rattle.cell_layout.proofs.Placed.{valid_parts, divided_classes}
 use Rattle.cell_layout.specs.Repartition.{StandsPlaced}
-use Rattle.cell_layout.proofs.InTurn.{in_order_rising, distinct_rises}
+use Rattle.blink_lists.proofs.RisingLemmas.{in_order_rising, distinct_rises}
 use Rattle.cell_layout.proofs.Cells.{same_itself, same_back}
 use Rattle.cell_layout.proofs.Coded.{are_numbers, below_sizes, row_of}
 
@@ -209,8 +209,8 @@ stands_placed image valid =
     let columns = image.columns in
     let of_cells = flat_map (cell_rows image) image.cells in
     let again = cells_again image image.cells classes has.cells in
-    let some = all_weaker (is_cell columns) (λ cell. nat_le 1 (length cell.rows)) (λ cell h. filled columns cell h) image.cells has.cells in
-    let none = all_weaker (is_rest_row image) (λ row. not (is_coded columns row)) (λ row h. (and_parts (fits image.schema row) (not (is_coded columns row)) h).1) image.rest has.rest in
+    let some = all-imply (is_cell columns) (λ cell. nat_le 1 (length cell.rows)) (λ cell h. filled columns cell h) image.cells has.cells in
+    let none = all-imply (is_rest_row image) (λ row. not (is_coded columns row)) (λ row h. (and_parts (fits image.schema row) (not (is_coded columns row)) h).1) image.rest has.rest in
     let kept : filter (is_coded columns) (of_cells ++ image.rest) ≡ of_cells =
     filter-append (is_coded columns) of_cells image.rest ∙ rw (all_pass (is_coded columns) of_cells again.0, none_pass (is_coded columns) image.rest none) (append-nil of_cells) in
     let cells : cells_of (map (coded columns) (filter (is_coded columns) (of_cells ++ image.rest))) ≡ image.cells =
@@ -218,7 +218,7 @@ stands_placed image valid =
     let rest : filter (λ row. not (is_coded columns row)) (of_cells ++ image.rest) ≡ image.rest =
     filter-append (λ row. not (is_coded columns row)) of_cells image.rest
     ∙ rw (
-      none_pass (λ row. not (is_coded columns row)) of_cells (all_weaker (is_coded columns) (λ row. not (not (is_coded columns row))) (λ row h. ap (λ b. not (not b)) h) of_cells again.0),
+      none_pass (λ row. not (is_coded columns row)) of_cells (all-imply (is_coded columns) (λ row. not (not (is_coded columns row))) (λ row h. ap (λ b. not (not b)) h) of_cells again.0),
       all_pass (λ row. not (is_coded columns row)) image.rest none,
     ) refl in
     λ i. record { schema = image.schema; columns = image.columns; cells = cells i; rest = rest i }

@@ -16,7 +16,7 @@ use Rattle.cell_layout.specs.Blocks.{cell_widths, cell_blocks}
 use Rattle.cell_layout.specs.CellRepr.{IsCellRepr, image_of, cell_image}
 use Rattle.blink_lists.specs.declared.limits.TheConstants.{MOST_COLUMNS}
 use Rattle.cell_layout.proofs.KeptRows.{length-rows}
-use Rattle.cell_layout.proofs.Numbers.{length-numbered}
+use Rattle.blink_lists.proofs.NumberLemmas.{length-numbered}
 
 lane-few : (bits : ℕ) → lane_holding bits ≤ 32
 lane-few bits = by (nat_le bits 8) (nat_le bits 16) refl refl

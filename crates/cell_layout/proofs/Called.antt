@@ -21,12 +21,14 @@ use Rattle.order_codes.specs.Dictionary.{Classes}
 use Rattle.cell_layout.specs.Image.{column_values}
 use Rattle.cell_layout.specs.Layout.{in_pieces, classes_by, division_if, counts_of, divided_columns, classes_for}
 use Rattle.cell_layout.specs.Valid.{are_column_classes, are_divided}
-use Rattle.cell_layout.proofs.Numbers.{length-numbers, length-numbered}
-use Rattle.cell_layout.proofs.Passed.{all_weaker, all_swapped}
-use Rattle.cell_layout.proofs.Groups.{in_order-rearranged}
+use Rattle.blink_lists.proofs.NumberLemmas.{length-numbers, length-numbered, count_chosen}
+use Rattle.blink_lists.proofs.GroupLemmas.{all-imply}
+use Rattle.blink_lists.proofs.BoolLemmas.{all-swap}
+use Rattle.blink_lists.proofs.OrderLemmas.{rearranged-in_order}
 use Rattle.cell_layout.proofs.Sizes.{one_if_not}
 use Rattle.cell_layout.proofs.ClassPieces.{length-in_pieces, class_of_piece}
 use Rattle.cell_layout.proofs.Columns.{column_classes}
+use Rattle.blink_lists.proofs.SumLemmas.{count-map}
 
 -- the classes of a column, by its number
 abbrev classes_at : List ℕ → ℕ × List Counted → Classes
@@ -62,65 +64,18 @@ row_entries (column ∷ columns) whole (v ∷ row) i d long same all =
 fits_entries : (schema : Schema) (rows : List Row) → list_all (fits schema) rows ≡ true → list_all (are_entries rows) (numbered schema.columns) ≡ true
 fits_entries schema rows all =
     let entry : Row → ℕ × Column → Bool = λ row p. is_entry p.1.kind (get_or row p.0 (Int (pos 0))) in
-    all_weaker (λ p. list_all (λ row. entry row p) rows) (are_entries rows)
+    all-imply (λ p. list_all (λ row. entry row p) rows) (are_entries rows)
     (λ p h. list_all-map (is_entry p.1.kind) (λ (row : Row). get_or row p.0 (Int (pos 0))) rows ∙ h) (numbered schema.columns)
-    (all_swapped entry rows (numbered schema.columns)
-    (all_weaker (fits schema) (λ row. list_all (entry row) (numbered schema.columns))
+    (all-swap entry rows (numbered schema.columns)
+    (all-imply (fits schema) (λ row. list_all (entry row) (numbered schema.columns))
     (λ row h. let parts = and_parts (length row == length schema.columns) (list_all (λ p. is_entry p.0.kind p.1) (zip schema.columns row)) h in
     row_entries schema.columns row row 0 (Int (pos 0)) (eqb-true (length row) (length schema.columns) parts.0) (λ k. ap (λ j. get_or row j (Int (pos 0))) (omega arith)) parts.1) rows all))
-
--- a number stands at most once among numbers that go up by one
-number_before : {X : Type 0} (k i : ℕ) (xs : List X) → k < i → count_by (λ p. k == p.0) (numbered_from i xs) ≡ 0
-number_before k i [] lt = refl
-number_before k i (x ∷ xs) lt =
-    let other : (k == i) ≡ false = ne_eqb k i (λ e. omega arith) in
-    sum_by-cons (λ p. cond (k == p.0) 1 0) (i, x) (numbered_from (i + 1) xs) ∙ rw (other, number_before k (i + 1) xs (omega arith)) refl
-
-number_once : {X : Type 0} (k i : ℕ) (xs : List X) → count_by (λ p. k == p.0) (numbered_from i xs) ≤ 1
-number_once k i [] = omega arith
-number_once {X = X} k i (x ∷ xs) =
-    let split = sum_by-cons (λ (p : ℕ × X). cond (k == p.0) 1 0) (i, x) (numbered_from (i + 1) xs) in
-    elim (cases_eq k i) [
-      | inl e ↦ let here : (k == i) ≡ true = eq-eqb k i e in let rest = number_before k (i + 1) xs (omega arith) in rw (split, here, rest) (omega arith)
-      | inr ne ↦ let other : (k == i) ≡ false = ne_eqb k i ne in let rest = number_once k (i + 1) xs in rw (split, other) (omega arith)
-    ]
-
-some_of : (b c : Bool) → cond (b || c) 1 0 ≤ cond b 1 0 + cond c 1 0
-some_of true c = omega arith
-some_of false c = omega arith
-
-count-or : {X : Type 0} (p q : X → Bool) (xs : List X) → count_by (λ x. p x || q x) xs ≤ count_by p xs + count_by q xs
-count-or p q [] = omega arith
-count-or p q (x ∷ xs) =
-    let both = sum_by-cons (λ y. cond (p y || q y) 1 0) x xs in
-    let first = sum_by-cons (λ y. cond (p y) 1 0) x xs in
-    let second = sum_by-cons (λ y. cond (q y) 1 0) x xs in
-    let here = some_of (p x) (q x) in
-    let rest = count-or p q xs in
-    omega arith
-
-count_none : {X : Type 0} (xs : List X) → count_by (λ x. false) xs ≡ 0
-count_none [] = refl
-count_none (x ∷ xs) = let first = sum_by-cons (λ y. cond false 1 0) x xs in let rest = count_none xs in omega arith
-
--- as many columns are chosen as numbers at most
-count_chosen : {X : Type 0} (chosen : List ℕ) (i : ℕ) (xs : List X) → count_by (λ p. list_any (λ k. k == p.0) chosen) (numbered_from i xs) ≤ length chosen
-count_chosen [] i xs = let none = count_none (numbered_from i xs) in omega arith
-count_chosen (k ∷ chosen) i xs =
-    let both = count-or (λ p. k == p.0) (λ p. list_any (λ j. j == p.0) chosen) (numbered_from i xs) in
-    let once = number_once k i xs in
-    let rest = count_chosen chosen i xs in
-    omega arith
 
 few_chosen : (savings : List ℕ) → length (chosen_columns savings) ≤ MOST_DIVIDED
 few_chosen savings = few (map (λ p. p.0) (in_order saving_cmp (filter (λ p. nat_lt 0 p.1) (numbered savings))))
   where
     few : (xs : List ℕ) → length (in_order nat_cmp (take MOST_DIVIDED xs)) ≤ MOST_DIVIDED
-    few xs = let long = length-rearranged (in_order-rearranged nat_cmp (take MOST_DIVIDED xs)) in let short = length-take MOST_DIVIDED xs in omega arith
-
-count-map : {X Y : Type 0} (q : Y → Bool) (f : X → Y) (xs : List X) → count_by q (map f xs) ≡ count_by (λ x. q (f x)) xs
-count-map q f [] = refl
-count-map q f (x ∷ xs) = sum_by-cons (λ y. cond (q y) 1 0) (f x) (map f xs) ∙ ap (λ n. cond (q (f x)) 1 0 + n) (count-map q f xs) ∙ sym (sum_by-cons (λ y. cond (q (f y)) 1 0) x xs)
+    few xs = let long = length-rearranged (rearranged-in_order nat_cmp (take MOST_DIVIDED xs)) in let short = length-take MOST_DIVIDED xs in omega arith
 
 -- a column with several classes is a chosen one
 divided_chosen : (chosen : List ℕ) (p : ℕ × List Counted) → cond (nat_lt 1 (length (classes_at chosen p))) 1 0 ≤ cond (list_any (λ k. k == p.0) chosen) 1 0

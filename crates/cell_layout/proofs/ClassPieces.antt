@@ -13,11 +13,11 @@ use Rattle.blink_base.specs.ValueOrder.{value_total}
 use Rattle.blink_histogram.specs.Ranks.{Counted}
 use Rattle.order_codes.specs.Dictionary.{is_class}
 use Rattle.blink_lists.specs.declared.limits.TheConstants.{MOST_ROWS}
-use Rattle.order_codes.proofs.ClassListLemmas.{distinct-append, meet}
-use Rattle.freq_partition.proofs.PrefixSumLemmas.{sum-cons}
+use Rattle.blink_lists.proofs.DistinctLemmas.{distinct-append, meet}
+use Rattle.blink_lists.proofs.SumLemmas.{sum-cons}
 use Rattle.cell_layout.specs.Layout.{in_pieces}
-use Rattle.cell_layout.proofs.Groups.{in_order-rearranged}
-use Rattle.cell_layout.proofs.InTurn.{rises-in_order}
+use Rattle.blink_lists.proofs.OrderLemmas.{rearranged-in_order}
+use Rattle.blink_lists.proofs.RisingLemmas.{rises-in_order}
 
 module _ {X : Type 0} where
   pub length-in_pieces : (sizes : List ℕ) (xs : List X) → length (in_pieces sizes xs) ≡ length sizes
@@ -58,7 +58,7 @@ pub pieces-joined : (pieces : List (List Counted)) → Rearranged (map (λ c. c.
 pieces-joined [] = none
 pieces-joined (piece ∷ pieces) =
     subst (λ l. Rearranged l (joined (map class_of_piece (piece ∷ pieces)))) (sym (map-append (λ (c : Counted). c.0) piece (joined pieces)))
-    (followed (behind (map (λ c. c.0) (joined pieces)) (in_order-rearranged value_cmp (map (λ c. c.0) piece))) (in_front (class_of_piece piece) (pieces-joined pieces)))
+    (followed (behind (map (λ c. c.0) (joined pieces)) (rearranged-in_order value_cmp (map (λ c. c.0) piece))) (in_front (class_of_piece piece) (pieces-joined pieces)))
 
 -- and rise
 pub all_classes_of : (pieces : List (List Counted)) → list_all (is_piece MOST_ROWS) pieces ≡ true → are_distinct same_value (map (λ c. c.0) (joined pieces)) ≡ true → list_all is_class (map class_of_piece pieces) ≡ true
@@ -70,7 +70,7 @@ all_classes_of (piece ∷ pieces) each apart =
     let rest = map (λ (c : Counted). c.0) (joined pieces) in
     let split = rw (map-append (λ (c : Counted). c.0) piece (joined pieces)) at apart in
     let both = and_parts (are_distinct same_value values) (are_distinct same_value rest && not (meet same_value values rest)) (sym (distinct-append same_value values rest) ∙ split) in
-    let long : length (class_of_piece piece) ≡ length piece = sym (length-rearranged (in_order-rearranged value_cmp values)) ∙ length-map piece (λ (c : Counted). c.0) in
+    let long : length (class_of_piece piece) ≡ length piece = sym (length-rearranged (rearranged-in_order value_cmp values)) ∙ length-map piece (λ (c : Counted). c.0) in
     and_from (is_class (class_of_piece piece)) (list_all is_class (map class_of_piece pieces))
     (and_from (nat_le 1 (length (class_of_piece piece)) && nat_le (length (class_of_piece piece)) MOST_ROWS) (rises value_cmp (class_of_piece piece))
     (rw long (and_from (nat_le 1 (length piece)) (nat_le (length piece) MOST_ROWS) sized.0 sized.1)) (rises-in_order value_cmp value_total values both.0))

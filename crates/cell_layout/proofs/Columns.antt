@@ -16,17 +16,12 @@ use Rattle.blink_histogram.specs.Ranks.{Counted, distinct_values, count_of, coun
 use Rattle.order_codes.specs.Dictionary.{is_class, are_classes}
 use Rattle.blink_lists.specs.declared.limits.TheConstants.{MOST_ROWS}
 use Rattle.cell_layout.specs.Layout.{in_pieces, classes_by, division_if, counts_of}
-use Rattle.cell_layout.proofs.Passed.{all-rearranged, all-once_each, distinct-once_each, distinct-rearranged, length-filter-le}
-use Rattle.cell_layout.proofs.Groups.{in_order-rearranged}
+use Rattle.blink_lists.proofs.AllLemmas.{all-rearranged, all-once_each}
+use Rattle.blink_lists.proofs.GroupLemmas.{once_each-distinct}
+use Rattle.blink_lists.proofs.DistinctLemmas.{distinct-rearranged, length-filter-le, length-once_each-le}
+use Rattle.blink_lists.proofs.OrderLemmas.{rearranged-in_order}
 use Rattle.cell_layout.proofs.Sizes.{sizes_if}
 use Rattle.cell_layout.proofs.ClassPieces.{length-in_pieces, joined-in_pieces, all_pieces, class_of_piece, pieces-joined, all_classes_of}
-
-length-once_each-le : {X : Type 0} (eq : X → X → Bool) (xs : List X) → length (once_each eq xs) ≤ length xs
-length-once_each-le eq [] = omega arith
-length-once_each-le eq (x ∷ xs) =
-    let rest = length-once_each-le eq xs in
-    let low = length-filter-le (λ y. not (eq x y)) (once_each eq xs) in
-    omega arith
 
 firsts : {X : Type 0} (f : X → ℕ) (xs : List X) → map (λ (c : X × ℕ). c.0) (map (λ x. (x, f x)) xs) ≡ xs
 firsts f [] = refl
@@ -35,13 +30,13 @@ firsts f (x ∷ xs) = ap (λ l. x ∷ l) (firsts f xs)
 -- ranks have the distinct values
 ranked_values : (column : List Value) → Rearranged (distinct_values column) (map (λ c. c.0) (ranked column))
 ranked_values column =
-    subst (λ l. Rearranged l (map (λ (c : Counted). c.0) (ranked column))) (firsts (count_of column) (distinct_values column)) (map-rearranged (λ (c : Counted). c.0) (in_order-rearranged rank_cmp (counted column)))
+    subst (λ l. Rearranged l (map (λ (c : Counted). c.0) (ranked column))) (firsts (count_of column) (distinct_values column)) (map-rearranged (λ (c : Counted). c.0) (rearranged-in_order rank_cmp (counted column)))
 
 same_value_back : (x y : Value) → same_value x y ≡ same_value y x
 same_value_back x y = (eq_by_cmp_equiv value_total).symm x y
 
 ranked_apart : (column : List Value) → are_distinct same_value (map (λ c. c.0) (ranked column)) ≡ true
-ranked_apart column = sym (distinct-rearranged same_value same_value_back (ranked_values column)) ∙ distinct-once_each same_value column
+ranked_apart column = sym (distinct-rearranged same_value same_value_back (ranked_values column)) ∙ once_each-distinct same_value column
 
 pub length-ranked-le : (column : List Value) → length (ranked column) ≤ length column
 length-ranked-le column =

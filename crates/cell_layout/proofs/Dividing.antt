@@ -16,7 +16,7 @@ use Rattle.cell_layout.specs.Image.{column_values}
 use Rattle.cell_layout.specs.Layout.{classes_by, classes_if, counts_of, division_if, divided_columns, ranked_columns}
 use Rattle.cell_layout.specs.ColumnStats.{IsRanked, IsColumn}
 use Rattle.cell_layout.specs.declared.column_stats.RankedColumn.{RankedColumn}
-use Rattle.cell_layout.proofs.Numbers.{numbers-at, length-numbers, numbered-at, length-numbered}
+use Rattle.blink_lists.proofs.NumberLemmas.{numbers-at, length-numbers, numbered-at, length-numbered}
 use Rattle.cell_layout.proofs.Sizes.{sizes_if}
 use Rattle.cell_layout.proofs.Columns.{divided_are_classes, length-ranked-le}
 

@@ -9,7 +9,7 @@ use Rattle.std.proofs.lemmas.Map.Lookups.{exact_bytes}
 use Rattle.std.proofs.lemmas.List.{get_or-map, length-map}
 use Rattle.std.proofs.lemmas.List.Sorted.{searchable_from_sorted}
 use Rattle.blink_lists.specs.Lists.{rises}
-use Rattle.order_codes.proofs.ValueRankLemmas.{less_is}
+use Rattle.blink_lists.proofs.OrderLemmas.{less_is}
 use Rattle.cell_layout.specs.declared.cell.Cell.{Cell}
 use Rattle.cell_layout.specs.Layout.{cell_cmp}
 use Rattle.cell_layout.specs.CellIndex.{keys_of_cells, key_at, IsCellPlace}

@@ -23,10 +23,11 @@ use Rattle.cell_layout.specs.Layout.{empty_image}
 use Rattle.cell_layout.specs.Refusals.{duplicate_in}
 use Rattle.cell_layout.specs.Valid.{are_column_classes, are_divided, are_codes, is_cell, is_row_count, is_rest_row, is_valid, are_keyed, MayHold}
 use Rattle.blink_lists.specs.declared.limits.TheConstants.{MOST_ROWS, MOST_COLUMNS, MOST_DIVIDED}
-use Rattle.cell_layout.proofs.Passed.{all_weaker}
+use Rattle.blink_lists.proofs.GroupLemmas.{all-imply}
 use Rattle.cell_layout.proofs.Coded.{below_sizes, are_numbers}
 use Rattle.cell_layout.proofs.Sizes.{all-flat_map}
-use Rattle.cell_layout.proofs.KeptRows.{all_at, length-map-zip}
+use Rattle.blink_lists.proofs.AllLemmas.{all_at}
+use Rattle.blink_lists.proofs.ZipLemmas.{length-map-zip}
 use Rattle.cell_layout.proofs.Placed.{valid_parts, placed_valid}
 use Rattle.cell_layout.proofs.Keyed.{keyed_behind}
 
@@ -65,7 +66,7 @@ cell_fits image cell divided good =
     let two = and_parts (are_numbers columns cell.classes) (is_row_count cell.rows) three.0 in
     let same = eqb-true (length cell.classes) (length columns) (and_parts (length cell.classes == length columns) _ two.0).0 in
     list_all-map (fits schema) (decoded_row columns cell.classes) cell.rows
-    ∙ all_weaker (are_codes columns cell.classes) (λ codes. fits schema (decoded_row columns cell.classes codes))
+    ∙ all-imply (are_codes columns cell.classes) (λ codes. fits schema (decoded_row columns cell.classes codes))
     (λ codes h.
     let here = and_parts (length codes == length columns) (below_sizes columns cell.classes codes) h in
     let long = eqb-true (length codes) (length columns) here.0 in
@@ -80,7 +81,7 @@ valid_fits image valid =
     list_all-append (fits image.schema) (flat_map (cell_rows image) image.cells) image.rest
     ∙ and_from (list_all (fits image.schema) (flat_map (cell_rows image) image.cells)) (list_all (fits image.schema) image.rest)
     (all-flat_map (is_cell image.columns) (fits image.schema) (cell_rows image) (λ cell h. cell_fits image cell has.divided h) image.cells has.cells)
-    (all_weaker (is_rest_row image) (fits image.schema) (λ row h. (and_parts (fits image.schema row) (not (is_coded image.columns row)) h).0) image.rest has.rest)
+    (all-imply (is_rest_row image) (fits image.schema) (λ row h. (and_parts (fits image.schema row) (not (is_coded image.columns row)) h).0) image.rest has.rest)
 
 -- rows that fit have a value a column
 pub fits_long : (schema : Schema) (rows : List Row) (n : ℕ) → list_all (fits schema) rows ≡ true → n ≡ length schema.columns → All (λ (row : Row). length row ≡ n) rows

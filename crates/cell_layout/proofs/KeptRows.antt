@@ -14,9 +14,12 @@ use Rattle.order_codes.specs.Dictionary.{Classes, class_at, decoded}
 use Rattle.cell_layout.specs.declared.cell.Cell.{Cell}
 use Rattle.cell_layout.specs.Image.{TableImage, decoded_row, cell_at, cell_rows, rows_of, row_count}
 use Rattle.cell_layout.specs.Valid.{are_codes, is_row_count}
-use Rattle.cell_layout.proofs.Numbers.{numbers-at, length-numbers}
+use Rattle.blink_lists.proofs.NumberLemmas.{numbers-at, length-numbers}
 use Rattle.cell_layout.specs.Standing.{rows_in, all_rows}
 use Rattle.cell_layout.specs.CellRepr.{row_of_codes, rows_of_codes, cell_image, image_of, IsCellRepr, most_image_rows}
+use Rattle.blink_lists.proofs.SliceLemmas.{front-at, behind-at}
+use Rattle.blink_lists.proofs.ZipLemmas.{zip-at, map-zip-at, length-map-zip}
+use Rattle.blink_lists.proofs.AllLemmas.{all_at}
 
 pub length-rows : (columns : List (List ℕ × ℕ)) (n : ℕ) → length (rows_of_codes columns n) ≡ n
 length-rows columns n = length-numbers (row_of_codes columns) 0 n
@@ -26,34 +29,6 @@ row_at columns n i d lt = numbers-at (row_of_codes columns) 0 n i d lt ∙ (let 
 
 pub code_kept : (columns : List (List ℕ × ℕ)) (row column : ℕ) (d : List ℕ × ℕ) → column < length columns → get_or (row_of_codes columns row) column 0 ≡ get_or (get_or columns column d).0 row 0
 code_kept columns row column d lt = get_or-map (λ (codes : List ℕ × ℕ). get_or codes.0 row 0) columns column d 0 lt
-
-pub all_at : {X : Type 0} (p : X → Bool) (xs : List X) (i : ℕ) (d : X) → list_all p xs ≡ true → i < length xs → p (get_or xs i d) ≡ true
-all_at p [] i d all lt = absurd (omega arith)
-all_at p (x ∷ xs) zero d all lt = (and_parts (p x) (list_all p xs) all).0
-all_at p (x ∷ xs) (suc i) d all lt = all_at p xs i d (and_parts (p x) (list_all p xs) all).1 (omega arith)
-
--- element by element of three lists
-zip-at : {X Y Z : Type 0} (p : (X × Y) × Z → Bool) (xs : List X) (ys : List Y) (zs : List Z) (i : ℕ) (x : X) (y : Y) (z : Z) → list_all p (zip (zip xs ys) zs) ≡ true
-    → i < length xs → length ys ≡ length xs → length zs ≡ length xs → p ((get_or xs i x, get_or ys i y), get_or zs i z) ≡ true
-zip-at p [] ys zs i x y z all lt e k = absurd (omega arith)
-zip-at p (a ∷ xs) [] zs i x y z all lt e k = absurd (omega arith)
-zip-at p (a ∷ xs) (b ∷ ys) [] i x y z all lt e k = absurd (omega arith)
-zip-at p (a ∷ xs) (b ∷ ys) (c ∷ zs) zero x y z all lt e k = (and_parts (p ((a, b), c)) (list_all p (zip (zip xs ys) zs)) all).0
-zip-at p (a ∷ xs) (b ∷ ys) (c ∷ zs) (suc i) x y z all lt e k = zip-at p xs ys zs i x y z (and_parts (p ((a, b), c)) (list_all p (zip (zip xs ys) zs)) all).1 (omega arith) (omega arith) (omega arith)
-
-map-zip-at : {X Y Z A : Type 0} (f : (X × Y) × Z → A) (xs : List X) (ys : List Y) (zs : List Z) (i : ℕ) (x : X) (y : Y) (z : Z) (d : A)
-    → i < length xs → length ys ≡ length xs → length zs ≡ length xs → get_or (map f (zip (zip xs ys) zs)) i d ≡ f ((get_or xs i x, get_or ys i y), get_or zs i z)
-map-zip-at f [] ys zs i x y z d lt e k = absurd (omega arith)
-map-zip-at f (a ∷ xs) [] zs i x y z d lt e k = absurd (omega arith)
-map-zip-at f (a ∷ xs) (b ∷ ys) [] i x y z d lt e k = absurd (omega arith)
-map-zip-at f (a ∷ xs) (b ∷ ys) (c ∷ zs) zero x y z d lt e k = refl
-map-zip-at f (a ∷ xs) (b ∷ ys) (c ∷ zs) (suc i) x y z d lt e k = map-zip-at f xs ys zs i x y z d (omega arith) (omega arith) (omega arith)
-
-pub length-map-zip : {X Y Z A : Type 0} (f : (X × Y) × Z → A) (xs : List X) (ys : List Y) (zs : List Z) → length ys ≡ length xs → length zs ≡ length xs → length (map f (zip (zip xs ys) zs)) ≡ length xs
-length-map-zip f [] ys zs e k = refl
-length-map-zip f (a ∷ xs) [] zs e k = absurd (omega arith)
-length-map-zip f (a ∷ xs) (b ∷ ys) [] e k = absurd (omega arith)
-length-map-zip f (a ∷ xs) (b ∷ ys) (c ∷ zs) e k = let rest = length-map-zip f xs ys zs (omega arith) (omega arith) in omega arith
 
 -- the parts of a cell that is kept
 pub record HasCodes (columns : List Classes) (cell : Cell) (row : ℕ) : Type 0 where
@@ -87,17 +62,6 @@ decoded_at columns cell row k v d has lt is =
 pub length-decoded : (columns : List Classes) (cell : Cell) (row : ℕ) → HasCodes columns cell row → length (decoded_row columns cell.classes (row_of_codes cell.codes row)) ≡ length columns
 length-decoded columns cell row has =
     length-map-zip (λ (p : (List (List Value) × ℕ) × ℕ). unwrap_or (decoded p.0.0 p.0.1 p.1) (Int (pos 0))) columns cell.classes (row_of_codes cell.codes row) has.classes has.row_full
-
--- rows by their number
-front-at : {X : Type 0} (xs ys : List X) (i : ℕ) → i < length xs → slice_get (xs ++ ys) i ≡ slice_get xs i
-front-at [] ys i lt = absurd (omega arith)
-front-at (x ∷ xs) ys zero lt = refl
-front-at (x ∷ xs) ys (suc i) lt = front-at xs ys i (omega arith)
-
-behind-at : {X : Type 0} (xs ys : List X) (i j : ℕ) → j ≡ length xs + i → slice_get (xs ++ ys) j ≡ slice_get ys i
-behind-at [] ys i j e = let same : j ≡ i = omega arith in ap (slice_get ys) same
-behind-at (x ∷ xs) ys i zero e = absurd (omega arith)
-behind-at (x ∷ xs) ys i (suc j) e = behind-at xs ys i j (omega arith)
 
 module _ (columns : List Classes) where
   pub length-in : (cell : Cell) → length (rows_in columns cell) ≡ cell.rows
@@ -154,10 +118,6 @@ cell_seen image schema columns cells rest k cell view lt is =
     let n = length-map cells cell_image in
     let within : k < length cells = rw (← view, n) at lt in
     (within, ap (λ (i : TableImage). cell_at i k) (sym view) ∙ get_or-map cell_image cells k cell (record { classes = []; rows = [] }) within ∙ ap cell_image (sym is))
-
--- an element of a list that meets a fact throughout
-pub item_of : {X : Type 0} (P : X → Type 0) (xs ys : List X) (k : ℕ) (x : X) → All P ys → xs ≡ ys → x ≡ get_or xs k x → k < length xs → P x
-item_of P xs ys k x all e is lt = subst P (sym (is ∙ ap (λ l. get_or l k x) e)) (all k x (rw e at lt))
 
 -- one more value of a row, as calls say it
 pub decoded_more : (columns : List Classes) (cell : Cell) (row k : ℕ) (values : Classes) (classes : List ℕ) (code : ℕ) (v copy : Value) (so_far more : List Value) → IsCellRepr columns cell → row < cell.rows

@@ -11,17 +11,12 @@ pub mod Columns
 pub mod Dividing
 pub mod Finding
 pub mod Fitting
-pub mod Groups
 pub mod Growing
-pub mod InTurn
 pub mod KeptRows
 pub mod Keyed
-pub mod Keys
 pub mod Laying
 pub mod Lookups
 pub mod Merged
-pub mod Numbers
-pub mod Passed
 pub mod Pieces
 pub mod Placed
 pub mod PlacedRows

@@ -14,8 +14,9 @@ use Rattle.cell_layout.specs.Image.{CellImage, CodedRow}
 use Rattle.cell_layout.specs.Layout.{cell_cmp, same_cell, cell_of, cells_of}
 use Rattle.cell_layout.specs.InsertRow.{keys_in, Above, Rising}
 use Rattle.cell_layout.specs.MergeCells.{rows_under, lookup}
-use Rattle.cell_layout.proofs.Keys.{any-keys}
-use Rattle.cell_layout.proofs.Passed.{all_weaker, some_kept}
+use Rattle.blink_lists.proofs.OrderedKeyLemmas.{any-keys}
+use Rattle.blink_lists.proofs.GroupLemmas.{all-imply}
+use Rattle.blink_lists.proofs.AnyLemmas.{some_passing}
 use Rattle.cell_layout.proofs.Cells.{same_is, same_itself, cell_keys}
 use Rattle.cell_layout.proofs.Placing.{turned, Above-below, none-above, none-there, keys-cells}
 use Rattle.cell_layout.proofs.Placed.{cells_rise, filled_cells}
@@ -109,8 +110,8 @@ lookup-cells k rows = by (list_any (same_cell k) (map (λ (r : CodedRow). r.clas
 pub cells_filled : (rows : List CodedRow) → are_filled (cells_of rows) ≡ true
 cells_filled rows =
     list_all-map (λ (cell : CellImage). nat_le 1 (length cell.rows)) (cell_of rows) (cell_keys rows)
-    ∙ all_weaker (λ k. list_any (λ (r : CodedRow). same_cell k r.classes) rows) (λ k. nat_le 1 (length (own_codes k rows)))
-    (λ k h. ap (nat_le 1) (length-map (filter (λ (r : CodedRow). same_cell k r.classes) rows) (λ (r : CodedRow). r.codes)) ∙ some_kept (λ (r : CodedRow). same_cell k r.classes) rows h)
+    ∙ all-imply (λ k. list_any (λ (r : CodedRow). same_cell k r.classes) rows) (λ k. nat_le 1 (length (own_codes k rows)))
+    (λ k h. ap (nat_le 1) (length-map (filter (λ (r : CodedRow). same_cell k r.classes) rows) (λ (r : CodedRow). r.codes)) ∙ some_passing (λ (r : CodedRow). same_cell k r.classes) rows h)
     (cell_keys rows) (filled_cells rows)
 
 -- further rows in a cell that is there

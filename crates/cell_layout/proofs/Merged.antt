@@ -21,7 +21,8 @@ use Rattle.cell_layout.specs.MergeCells.{HaveRoom, HasRoomFor, HaveRoomFor, IsAb
 use Rattle.cell_layout.proofs.Placing.{Rising-put}
 use Rattle.cell_layout.proofs.Cells.{same_back}
 use Rattle.cell_layout.proofs.Finding.{rising-from, rises-from, above-at, key-here}
-use Rattle.cell_layout.proofs.Putting.{empty_cell, keys-kept, put-missing, map-insert}
+use Rattle.cell_layout.proofs.Putting.{empty_cell, keys-kept, put-missing}
+use Rattle.blink_lists.proofs.SliceLemmas.{map-insert}
 use Rattle.cell_layout.proofs.Lookups.{lookup-set, lookup-insert}
 use Rattle.cell_layout.proofs.Absorbed.{absorbed_cell}
 use Rattle.cell_layout.proofs.Roomier.{less_tied}

@@ -7,25 +7,7 @@ use Rattle.blink_base.specs.declared.value.Value.{Value}
 use Rattle.blink_base.specs.Values.{value_cmp}
 use Rattle.blink_histogram.specs.Ranks.{Counted}
 use Rattle.cell_layout.specs.Layout.{classes_by}
-
-take-map : {X Y : Type 0} (f : X → Y) (n : ℕ) (xs : List X) → map f (take n xs) ≡ take n (map f xs)
-take-map f zero xs = refl
-take-map f (suc n) [] = refl
-take-map f (suc n) (x ∷ xs) = ap (λ l. f x ∷ l) (take-map f n xs)
-
-drop-map : {X Y : Type 0} (f : X → Y) (n : ℕ) (xs : List X) → map f (drop n xs) ≡ drop n (map f xs)
-drop-map f zero xs = refl
-drop-map f (suc n) [] = refl
-drop-map f (suc n) (x ∷ xs) = drop-map f n xs
-
-drop-at : (xs : List ℕ) (i j : ℕ) → i < length xs → j ≡ suc i → drop i xs ≡ get_or xs i 0 ∷ drop j xs
-drop-at [] i j lt e = absurd (omega arith)
-drop-at (x ∷ xs) i zero lt e = absurd (omega arith)
-drop-at (x ∷ xs) zero (suc j) lt e = let none : j ≡ 0 = omega arith in ap (λ k. x ∷ drop k xs) (sym none)
-drop-at (x ∷ xs) (suc i) (suc j) lt e = drop-at xs i j (omega arith) (omega arith)
-
-drop-next : (xs : List ℕ) (i : ℕ) → i < length xs → drop i xs ≡ get_or xs i 0 ∷ drop (i + 1) xs
-drop-next xs i lt = drop-at xs i (i + 1) lt (omega arith)
+use Rattle.blink_lists.proofs.SliceLemmas.{take-map, drop-map, drop-next}
 
 module _ (it : List Counted) (rest : List ℕ) (left : List Counted) (n : ℕ) (found : map (slice_get it) rest ≡ map Some left) where
   pub front_found : (piece : List ℕ) → piece ≡ take n rest → map (slice_get it) piece ≡ map Some (take n left)

@@ -18,11 +18,16 @@ use Rattle.order_codes.specs.Dictionary.{Classes, are_classes}
 use Rattle.cell_layout.specs.Image.{TableImage, CodedRow, is_coded, coded, rows_of}
 use Rattle.cell_layout.specs.Layout.{cell_cmp, same_cell, cell_of, cells_of, placed}
 use Rattle.cell_layout.specs.Valid.{is_cell, are_codes, is_row_count, is_rest_row, is_valid, are_divided, are_column_classes, are_keyed, most_cell_rows, MayHold}
-use Rattle.cell_layout.proofs.Passed.{all-rearranged, all_weaker, all_both, all-filter, all_kept, all-once_each, some_kept, distinct-once_each, distinct-rearranged, length-filter-le}
-use Rattle.cell_layout.proofs.Groups.{own_keys, in_order-rearranged}
-use Rattle.cell_layout.proofs.InTurn.{rises-in_order}
+use Rattle.blink_lists.proofs.AllLemmas.{all-rearranged, all-part, all-passing, all-once_each}
+use Rattle.blink_lists.proofs.GroupLemmas.{all-imply, once_each-distinct, covers-self}
+use Rattle.blink_lists.proofs.BoolLemmas.{all_both}
+use Rattle.blink_lists.proofs.AnyLemmas.{some_passing}
+use Rattle.blink_lists.proofs.DistinctLemmas.{distinct-rearranged, length-filter-le}
+use Rattle.blink_lists.proofs.OrderLemmas.{rearranged-in_order}
+use Rattle.blink_lists.proofs.RisingLemmas.{rises-in_order}
 use Rattle.cell_layout.proofs.Coded.{are_numbers, is_placed, all_placed}
 use Rattle.cell_layout.proofs.Cells.{same_is, same_itself, cell_keys, whole_rows, placed-rearranged}
+use Rattle.blink_lists.proofs.ChoiceLemmas.{any-map}
 
 any-map : {X Y : Type 0} (p : Y → Bool) (f : X → Y) (xs : List X) → list_any p (map f xs) ≡ list_any (λ x. p (f x)) xs
 any-map p f [] = refl
@@ -31,36 +36,36 @@ any-map p f (x ∷ xs) = ap (λ b. p (f x) || b) (any-map p f xs)
 -- the class numbers of the cells pass what those of all rows pass
 all_cell_keys : (p : List ℕ → Bool) (rows : List CodedRow) → list_all p (map (λ r. r.classes) rows) ≡ true → list_all p (cell_keys rows) ≡ true
 all_cell_keys p rows all =
-    sym (all-rearranged p (in_order-rearranged cell_cmp (once_each same_cell (map (λ r. r.classes) rows)))) ∙ all-once_each same_cell p (map (λ r. r.classes) rows) all
+    sym (all-rearranged p (rearranged-in_order cell_cmp (once_each same_cell (map (λ r. r.classes) rows)))) ∙ all-once_each same_cell p (map (λ r. r.classes) rows) all
 
 -- each cell has a row
 pub filled_cells : (rows : List CodedRow) → list_all (λ k. list_any (λ r. same_cell k r.classes) rows) (cell_keys rows) ≡ true
 filled_cells rows = all_cell_keys (λ k. list_any (λ r. same_cell k r.classes) rows) rows (list_all-map (λ k. list_any (λ r. same_cell k r.classes) rows) (λ (r : CodedRow). r.classes) rows ∙ own)
   where
     own : list_all (λ q. list_any (λ r. same_cell q.classes r.classes) rows) rows ≡ true
-    own = all_weaker (λ q. list_any (same_cell q.classes) (map (λ r. r.classes) rows)) (λ q. list_any (λ r. same_cell q.classes r.classes) rows)
+    own = all-imply (λ q. list_any (same_cell q.classes) (map (λ r. r.classes) rows)) (λ q. list_any (λ r. same_cell q.classes r.classes) rows)
         (λ q h. sym (any-map (same_cell q.classes) (λ (r : CodedRow). r.classes) rows) ∙ h) rows
-        (own_keys (λ a b. same_cell b a) (λ (r : CodedRow). r.classes) (λ j k e. sym (same_is k j e)) same_itself rows)
+        (covers-self (λ a b. same_cell b a) (λ (r : CodedRow). r.classes) (λ j k e. sym (same_is k j e)) same_itself rows)
 
 -- the codes of a cell
 cell_codes : (columns : List Classes) (k : List ℕ) (rows : List CodedRow) → list_all (is_placed columns) rows ≡ true → list_all (are_codes columns k) (map (λ r. r.codes) (filter (λ r. same_cell k r.classes) rows)) ≡ true
 cell_codes columns k rows all =
     list_all-map (are_codes columns k) (λ (r : CodedRow). r.codes) (filter (λ r. same_cell k r.classes) rows)
-    ∙ all_weaker (λ r. is_placed columns r && same_cell k r.classes) (λ r. are_codes columns k r.codes)
+    ∙ all-imply (λ r. is_placed columns r && same_cell k r.classes) (λ r. are_codes columns k r.codes)
     (λ r h. let parts = and_parts (is_placed columns r) (same_cell k r.classes) h in
     subst (λ z. are_codes columns z r.codes ≡ true) (sym (same_is k r.classes parts.1)) (and_parts (are_numbers columns r.classes) (are_codes columns r.classes r.codes) parts.0).1)
     (filter (λ r. same_cell k r.classes) rows)
-    (all_both (is_placed columns) (λ r. same_cell k r.classes) (filter (λ r. same_cell k r.classes) rows) (all-filter (is_placed columns) (λ r. same_cell k r.classes) rows all) (all_kept (λ r. same_cell k r.classes) rows))
+    (all_both (is_placed columns) (λ r. same_cell k r.classes) (filter (λ r. same_cell k r.classes) rows) (all-part (is_placed columns) (λ r. same_cell k r.classes) rows all) (all-passing (λ r. same_cell k r.classes) rows))
 
 cells_valid : (columns : List Classes) (rows : List CodedRow) → list_all (is_placed columns) rows ≡ true → length rows ≤ most_cell_rows → list_all (is_cell columns) (cells_of rows) ≡ true
 cells_valid columns rows all few =
     list_all-map (is_cell columns) (cell_of rows) (cell_keys rows)
-    ∙ all_weaker (λ k. are_numbers columns k && list_any (λ r. same_cell k r.classes) rows) (λ k. is_cell columns (cell_of rows k)) each (cell_keys rows)
+    ∙ all-imply (λ k. are_numbers columns k && list_any (λ r. same_cell k r.classes) rows) (λ k. is_cell columns (cell_of rows k)) each (cell_keys rows)
     (all_both (are_numbers columns) (λ k. list_any (λ r. same_cell k r.classes) rows) (cell_keys rows) numbers (filled_cells rows))
   where
     numbers : list_all (are_numbers columns) (cell_keys rows) ≡ true
     numbers = all_cell_keys (are_numbers columns) rows (list_all-map (are_numbers columns) (λ (r : CodedRow). r.classes) rows
-        ∙ all_weaker (is_placed columns) (λ r. are_numbers columns r.classes) (λ r h. (and_parts (are_numbers columns r.classes) (are_codes columns r.classes r.codes) h).0) rows all)
+        ∙ all-imply (is_placed columns) (λ r. are_numbers columns r.classes) (λ r h. (and_parts (are_numbers columns r.classes) (are_codes columns r.classes r.codes) h).0) rows all)
 
     each : (k : List ℕ) → (are_numbers columns k && list_any (λ r. same_cell k r.classes) rows) ≡ true → is_cell columns (cell_of rows k) ≡ true
     each k h =
@@ -69,7 +74,7 @@ cells_valid columns rows all few =
         let long : length (map (λ (r : CodedRow). r.codes) part) ≡ length part = length-map part (λ (r : CodedRow). r.codes) in
         let low = length-filter-le (λ (r : CodedRow). same_cell k r.classes) rows in
         let count : is_row_count (map (λ r. r.codes) part) ≡ true =
-        rw long (and_from (nat_le 1 (length part)) (nat_le (length part) most_cell_rows) (some_kept (λ r. same_cell k r.classes) rows parts.1) (le-leb _ _ (le_trans low few))) in
+        rw long (and_from (nat_le 1 (length part)) (nat_le (length part) most_cell_rows) (some_passing (λ r. same_cell k r.classes) rows parts.1) (le-leb _ _ (le_trans low few))) in
         and_from (are_numbers columns k && is_row_count (map (λ r. r.codes) part)) (list_all (are_codes columns k) (map (λ r. r.codes) part))
         (and_from (are_numbers columns k) (is_row_count (map (λ r. r.codes) part)) parts.0 count) (cell_codes columns k rows all)
 
@@ -79,7 +84,7 @@ keys_of_cells rows (k ∷ ks) = ap (λ l. k ∷ l) (keys_of_cells rows ks)
 
 -- cells stand in order
 pub cells_rise : (rows : List CodedRow) → rises cell_cmp (map (λ cell. cell.classes) (cells_of rows)) ≡ true
-cells_rise rows = ap (rises cell_cmp) (keys_of_cells rows (cell_keys rows)) ∙ rises-in_order cell_cmp nat_list_cmp_total (once_each same_cell (map (λ r. r.classes) rows)) (distinct-once_each same_cell (map (λ r. r.classes) rows))
+cells_rise rows = ap (rises cell_cmp) (keys_of_cells rows (cell_keys rows)) ∙ rises-in_order cell_cmp nat_list_cmp_total (once_each same_cell (map (λ r. r.classes) rows)) (once_each-distinct same_cell (map (λ r. r.classes) rows))
 
 -- each column's classes are classes
 zip_classes : (schema : List Column) (columns : List Classes) → length columns ≡ length schema → list_all (λ p. are_column_classes p.0 p.1) (zip schema columns) ≡ true → list_all are_classes columns ≡ true
@@ -139,7 +144,7 @@ placed_valid schema columns rows divided may =
     let as_many = valid.0 in
     let classes = valid.1 in
     let long : list_all (λ row. length row == length columns) rows ≡ true =
-    all_weaker (fits schema) (λ row. length row == length columns)
+    all-imply (fits schema) (λ row. length row == length columns)
     (λ row h. eq-eqb (length row) (length columns) (eqb-true (length row) (length schema.columns) (and_parts (length row == length schema.columns) _ h).0 ∙ sym as_many)) rows may.fit in
     let image = placed schema columns rows in
     let kept = filter (is_coded columns) rows in
@@ -154,7 +159,7 @@ placed_valid schema columns rows divided may =
           may.allowed divided
           (cells_valid columns (map (coded columns) kept) (all_placed columns kept classes (whole_rows columns rows long)) (omega arith))
           (cells_rise (map (coded columns) kept))
-          (all_both (fits schema) uncoded (filter uncoded rows) (all-filter (fits schema) uncoded rows may.fit) (all_kept uncoded rows))
+          (all_both (fits schema) uncoded (filter uncoded rows) (all-part (fits schema) uncoded rows may.fit) (all-passing uncoded rows))
           (le-leb (length (filter uncoded rows)) most_cell_rows (omega arith))
           (keyed-rearranged schema.key rows (rows_of image) moved may.keyed),
       moved,

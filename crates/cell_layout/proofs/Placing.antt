@@ -13,7 +13,7 @@ use Rattle.blink_lists.specs.Lists.{put_in_order, in_order, once_each}
 use Rattle.cell_layout.specs.Image.{CellImage, CodedRow}
 use Rattle.cell_layout.specs.Layout.{cell_cmp, same_cell, cell_of, cells_of}
 use Rattle.cell_layout.specs.InsertRow.{one_row, with_row, put_row, keys_in, Above, Rising}
-use Rattle.cell_layout.proofs.Keys.{any-keys, keys-known, keys-new, same-turned}
+use Rattle.blink_lists.proofs.OrderedKeyLemmas.{any-keys, keys-known, keys-new, same-turned}
 
 pub turned : (x y : List ℕ) (c : Ordering) → cell_cmp x y ≡ c → cell_cmp y x ≡ ordering_reverse c
 turned x y c e = nat_list_cmp_total.antisymm y x ∙ ap ordering_reverse e

@@ -25,6 +25,9 @@ use Rattle.cell_layout.specs.InsertRowRepr.{IsGrown, IsPushed, IsFirst, IsPut, r
 use Rattle.cell_layout.proofs.Placing.{turned, put-less, put-equal, put-greater}
 use Rattle.cell_layout.proofs.Finding.{rising-from, above-at}
 use Rattle.cell_layout.proofs.KeptRows.{length-rows}
+use Rattle.blink_lists.proofs.SliceLemmas.{map-insert}
+use Rattle.blink_lists.proofs.ZipLemmas.{zip-all, pair-all}
+use Rattle.blink_lists.proofs.NumberLemmas.{numbers-push, same-numbers}
 
 -- a row in its cell, among cells in order
 put-found : (r : CodedRow) (cells : List CellImage) (i : ℕ) (d : CellImage) → Rising (keys_in cells) → i < length cells → (get_or cells i d).classes ≡ r.classes → put_row r cells ≡ set cells i (with_row (get_or cells i d) r)
@@ -46,20 +49,6 @@ put-missing r (c ∷ cells) zero d le before behind = put-less [] r c cells (tur
 put-missing r (c ∷ cells) (suc i) d le before behind =
     put-greater [] r c cells (turned c.classes r.classes Less (before 0 (omega arith)))
     ∙ ap (λ l. c ∷ l) (put-missing r cells i d (omega arith) (λ k lt. before (suc k) (omega arith)) (λ k low lt. behind (suc k) (omega arith) (omega arith)))
-
-numbers-push : {X : Type 0} (f : ℕ → X) (a n : ℕ) → map f (numbers_from a (n + 1)) ≡ map f (numbers_from a n) ++ f (a + n) ∷ []
-numbers-push f a zero = let e : a ≡ a + 0 = omega arith in ap (λ k. f k ∷ []) e
-numbers-push f a (suc n) =
-    let e : (a + 1) + n ≡ a + suc n = omega arith in
-    let m : suc n + 1 ≡ suc (n + 1) = omega arith in
-    ap (λ k. map f (numbers_from a k)) m ∙ ap (λ l. f a ∷ l) (numbers-push f (a + 1) n) ∙ ap (λ k. (f a ∷ map f (numbers_from (a + 1) n)) ++ f k ∷ []) e
-
-same-numbers : {X : Type 0} (f g : ℕ → X) (a n : ℕ) → ((k : ℕ) → k < a + n → f k ≡ g k) → map f (numbers_from a n) ≡ map g (numbers_from a n)
-same-numbers f g a zero same = refl
-same-numbers f g a (suc n) same =
-    let head = same a (omega arith) in
-    let tail = same-numbers f g (a + 1) n (λ k lt. same k (omega arith)) in
-    λ i. head i ∷ tail i
 
 module _ (old new : List (List ℕ × ℕ)) (codes : List ℕ) (rows : ℕ) (full : All (λ (c : List ℕ × ℕ). length c.0 ≡ rows) old) (width : length codes ≡ length old) (pushed : HasPushed old new codes) where
   none : List ℕ × ℕ
@@ -101,20 +90,6 @@ module _ (old new : List (List ℕ × ℕ)) (codes : List ℕ) (rows : ℕ) (ful
       let count = pushed.count in
       let size = full k d (omega arith) in
       ap length (pushed.each k d (omega arith)) ∙ length-append (get_or old k d).0 (get_or codes k 0 ∷ []) ∙ ap (λ n. n + 1) size
-
--- tests that hold throughout
-zip-all : {X Y Z : Type 0} (p : (X × Y) × Z → Bool) (xs : List X) (ys : List Y) (zs : List Z) (x : X) (y : Y) (z : Z) → length ys ≡ length xs → length zs ≡ length xs
-    → ((k : ℕ) → k < length xs → p ((get_or xs k x, get_or ys k y), get_or zs k z) ≡ true) → list_all p (zip (zip xs ys) zs) ≡ true
-zip-all p [] ys zs x y z e k each = refl
-zip-all p (a ∷ xs) [] zs x y z e k each = absurd (omega arith)
-zip-all p (a ∷ xs) (b ∷ ys) [] x y z e k each = absurd (omega arith)
-zip-all p (a ∷ xs) (b ∷ ys) (c ∷ zs) x y z e k each =
-    and_from (p ((a, b), c)) (list_all p (zip (zip xs ys) zs)) (each 0 (omega arith)) (zip-all p xs ys zs x y z (omega arith) (omega arith) (λ i lt. each (suc i) (omega arith)))
-
-pair-all : {X Y : Type 0} (p : X × Y → Bool) (xs : List X) (ys : List Y) (x : X) (y : Y) → length ys ≡ length xs → ((k : ℕ) → k < length xs → p (get_or xs k x, get_or ys k y) ≡ true) → list_all p (zip xs ys) ≡ true
-pair-all p [] ys x y e each = refl
-pair-all p (a ∷ xs) [] x y e each = absurd (omega arith)
-pair-all p (a ∷ xs) (b ∷ ys) x y e each = and_from (p (a, b)) (list_all p (zip xs ys)) (each 0 (omega arith)) (pair-all p xs ys x y (omega arith) (λ i lt. each (suc i) (omega arith)))
 
 codes_within : (columns : List Classes) (classes codes : List ℕ) → AreWithin columns classes codes (length columns) → are_codes columns classes codes ≡ true
 codes_within columns classes codes w =
@@ -240,11 +215,6 @@ first_cell columns cell r w first = (
         let codes = and_from (are_codes columns r.classes r.codes) true (codes_within columns r.classes r.codes w) refl in
         and_from _ (list_all (are_codes columns r.classes) (r.codes ∷ []))
         (and_from _ (is_row_count (r.codes ∷ [])) (and_from (length r.classes == length columns) (list_all (λ (p : (List (List Value)) × ℕ). nat_lt p.1 (length p.0)) (zip columns r.classes)) (eq-eqb (length r.classes) (length columns) w.class_count) numbers) refl) codes
-
-pub map-insert : {X Y : Type 0} (f : X → Y) (xs : List X) (i : ℕ) (x : X) → map f (insert xs i x) ≡ insert (map f xs) i (f x)
-map-insert f xs zero x = refl
-map-insert f [] (suc i) x = refl
-map-insert f (y ∷ xs) (suc i) x = ap (λ l. f y ∷ l) (map-insert f xs i x)
 
 -- a row in a new cell
 pub missing_put : (columns : List Classes) (old new : List Cell) (at : ℕ) (cell : Cell) (classes codes : List ℕ) → All (IsCellRepr columns) old → AreWithin columns classes codes (length columns) → IsMissing old classes at

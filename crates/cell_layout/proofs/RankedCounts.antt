@@ -18,7 +18,9 @@ use Rattle.blink_base.specs.Values.{same_value}
 use Rattle.blink_base.specs.ValueHash.{value_equiv}
 use Rattle.blink_histogram.specs.Ranks.{Counted, counted, count_of, rank_cmp, distinct_values}
 use Rattle.cell_layout.specs.Layout.{counts_of}
-use Rattle.cell_layout.proofs.Passed.{all_weaker, all-filter}
+use Rattle.blink_lists.proofs.GroupLemmas.{all-imply}
+use Rattle.blink_lists.proofs.AllLemmas.{all-part}
+use Rattle.blink_lists.proofs.AnyLemmas.{some-count}
 
 -- the count at a number
 count_here : (it : List Counted) (n : ℕ) (c : Counted) → slice_get it n ≡ Some c → slice_get (values_of it) n ≡ Some c.1
@@ -139,22 +141,13 @@ stands [] = refl
 stands (x ∷ column) =
     and_from (list_any (same_value x) (x ∷ column)) (list_all (λ v. list_any (same_value v) (x ∷ column)) (filter (λ y. not (same_value x y)) (distinct_values column)))
     (ap (λ b. b || list_any (same_value x) column) (value_equiv.refl x))
-    (all_weaker (λ v. list_any (same_value v) column) (λ v. list_any (same_value v) (x ∷ column)) (λ v e. or-right (same_value v x) (list_any (same_value v) column) e) (filter (λ y. not (same_value x y)) (distinct_values column))
-    (all-filter (λ v. list_any (same_value v) column) (λ y. not (same_value x y)) (distinct_values column) (stands column)))
-
-pub some-count : {X : Type 0} (p : X → Bool) (xs : List X) → list_any p xs ≡ true → 1 ≤ count_by p xs
-some-count p [] any = absurd (true≢false (sym any))
-some-count p (x ∷ xs) any = by (p x) refl (or_cases (p x) (list_any p xs) any) (some-count p xs)
-  where
-    by : (b : Bool) → p x ≡ b → (p x ≡ true) ⊎ (list_any p xs ≡ true) → (list_any p xs ≡ true → 1 ≤ count_by p xs) → 1 ≤ count_by p (x ∷ xs)
-    by true e o more = rw (sum_by-cons (λ y. cond (p y) 1 0) x xs, e) (omega arith)
-    by false e (inl here) more = absurd (true≢false (sym here ∙ e))
-    by false e (inr later) more = let rest = more later in rw (sum_by-cons (λ y. cond (p y) 1 0) x xs, e) (omega arith)
+    (all-imply (λ v. list_any (same_value v) column) (λ v. list_any (same_value v) (x ∷ column)) (λ v e. or-right (same_value v x) (list_any (same_value v) column) e) (filter (λ y. not (same_value x y)) (distinct_values column))
+    (all-part (λ v. list_any (same_value v) column) (λ y. not (same_value x y)) (distinct_values column) (stands column)))
 
 -- each value of a column is counted at least once
 pub counted_positive : (column : List Value) (counts : List ℕ) → counts ≡ counts_of (in_order rank_cmp (counted column)) → All (λ n. 1 ≤ n) counts
 counted_positive column counts e k d lt =
-    let each = all_weaker (λ v. list_any (same_value v) column) (λ v. nat_le 1 (count_of column v)) (λ v any. le-leb 1 (count_of column v) (some-count (same_value v) column any)) (distinct_values column) (stands column) in
+    let each = all-imply (λ v. list_any (same_value v) column) (λ v. nat_le 1 (count_of column v)) (λ v any. le-leb 1 (count_of column v) (some-count (same_value v) column any)) (distinct_values column) (stands column) in
     let all = all-ranked (λ c. nat_le 1 c.1) (counted column) (list_all-map (λ (c : Counted). nat_le 1 c.1) (λ (v : Value). (v, count_of column v)) (distinct_values column) ∙ each) in
     let here : list_all (nat_le 1) counts ≡ true = ap (list_all (nat_le 1)) e ∙ list_all-map (nat_le 1) (λ (c : Counted). c.1) (in_order rank_cmp (counted column)) ∙ all in
     leb-true 1 (get_or counts k d) (AllPass-from_list_all (nat_le 1) counts here k d lt)

@@ -21,8 +21,8 @@ use Rattle.cell_layout.specs.CellRepr.{IsCellRepr, row_of_codes, rows_of_codes}
 use Rattle.cell_layout.specs.Refusals.{repeated_key, duplicate_of}
 use Rattle.cell_layout.specs.Standing.{rows_in}
 use Rattle.cell_layout.proofs.KeptRows.{has_codes, decoded_at, length-rows, row_at}
-use Rattle.cell_layout.proofs.Numbers.{numbered-at, length-numbered}
-use Rattle.cell_layout.proofs.RankedCounts.{some-count}
+use Rattle.blink_lists.proofs.NumberLemmas.{numbered-at, length-numbered}
+use Rattle.blink_lists.proofs.AnyLemmas.{some-count}
 
 -- whether a key stands before its place
 abbrev pub stands_before : List Value → List Value → ℕ × Value → Bool

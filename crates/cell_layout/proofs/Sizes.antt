@@ -9,9 +9,10 @@ use Rattle.blink_lists.specs.Lists.{numbers_from}
 use Rattle.blink_lists.specs.Widths.{width_for}
 use Rattle.blink_lists.specs.declared.limits.TheConstants.{MOST_WIDTH, MOST_CLASSES}
 use Rattle.freq_partition.specs.Division.{Division, division_cmp, better, best_division, single_division, one_class, candidates, fronts, sizes_of, divided_by}
-use Rattle.freq_partition.proofs.PrefixSumLemmas.{sum-cons}
+use Rattle.blink_lists.proofs.SumLemmas.{sum-cons}
 use Rattle.cell_layout.specs.Layout.{division_if}
-use Rattle.cell_layout.proofs.Passed.{all_weaker, all_kept}
+use Rattle.blink_lists.proofs.GroupLemmas.{all-imply}
+use Rattle.blink_lists.proofs.AllLemmas.{all-passing}
 
 -- at most so many sizes, each at least 1, together n
 abbrev pub are_sizes : ℕ → ℕ → List ℕ → Bool
@@ -48,7 +49,7 @@ unfolding fronts
 fronts_good zero least n some = and_from (are_sizes 1 n (n ∷ [])) true (sizes-one 0 n some) refl
 fronts_good (suc more) least n some =
     and_from (are_sizes (suc (suc more)) n (n ∷ [])) _ (sizes-one (suc more) n some)
-    (all-flat_map test good with_front (each (λ w some_left. fronts_good more w (n - 2 ^ w) some_left)) (filter test (numbers_from least (MOST_WIDTH + 1 - least))) (all_kept test (numbers_from least (MOST_WIDTH + 1 - least))))
+    (all-flat_map test good with_front (each (λ w some_left. fronts_good more w (n - 2 ^ w) some_left)) (filter test (numbers_from least (MOST_WIDTH + 1 - least))) (all-passing test (numbers_from least (MOST_WIDTH + 1 - least))))
   where
     test : ℕ → Bool
     test w = nat_lt (2 ^ w) n && nat_le w (width_for (n - 2 ^ w))
@@ -65,7 +66,7 @@ fronts_good (suc more) least n some =
         let low = ltb-true (2 ^ w) n (and_parts (nat_lt (2 ^ w) n) (nat_le w (width_for (n - 2 ^ w))) passes).0 in
         let some_w = pow_mono {i = 0} {j = w} (omega arith) in
         list_all-map good (λ (rest : List ℕ). w ∷ rest) (fronts more w (n - 2 ^ w))
-        ∙ all_weaker (λ front. are_sizes (suc more) (n - 2 ^ w) (sizes_of front (n - 2 ^ w))) (λ rest. good (w ∷ rest))
+        ∙ all-imply (λ front. are_sizes (suc more) (n - 2 ^ w) (sizes_of front (n - 2 ^ w))) (λ rest. good (w ∷ rest))
         (λ rest h. sizes-cons (suc more) n (2 ^ w) (sizes_of rest (n - 2 ^ w)) (omega arith) (omega arith) h) (fronts more w (n - 2 ^ w)) (shorter w (omega arith))
 
 -- what all of a list pass, its best passes

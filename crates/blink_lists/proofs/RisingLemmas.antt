@@ -6,10 +6,9 @@ use Rattle.std.specs.declared.cmp.Ordering.TheVariants.{Less, Equal, Greater}
 use Rattle.std.specs.Ordering.{is_lt, is_le, is_eq, ordering_reverse}
 use Rattle.std.specs.Cmp.{IsTotalOrder}
 use Rattle.std.proofs.lemmas.Bool.{and_parts, and_from, or_parts, or_from, not-true, not_from_false}
-use Rattle.order_codes.proofs.ValueRankLemmas.{less_is}
 use Rattle.blink_lists.specs.Lists.{put_in_order, in_order, rises, are_distinct}
-use Rattle.cell_layout.proofs.Passed.{any-rearranged}
-use Rattle.cell_layout.proofs.Groups.{in_order-rearranged}
+use Rattle.blink_lists.proofs.AnyLemmas.{any-rearranged}
+use Rattle.blink_lists.proofs.OrderLemmas.{less_is, rearranged-in_order}
 
 at_most : (r : Ordering) → is_le r ≡ true → is_eq r ≡ false → is_lt r ≡ true
 at_most Less h e = refl
@@ -54,7 +53,7 @@ module _ {X : Type 0} (cmp : X → X → Ordering) (o : IsTotalOrder cmp) where
   rises-in_order [] each = refl
   rises-in_order (x ∷ xs) each =
       let parts = and_parts (not (list_any (λ y. is_eq (cmp x y)) xs)) (are_distinct (λ y z. is_eq (cmp y z)) xs) each in
-      rises-put x (in_order cmp xs) (sym (any-rearranged (λ y. is_eq (cmp x y)) (in_order-rearranged cmp xs)) ∙ not-true _ parts.0) (rises-in_order xs parts.1)
+      rises-put x (in_order cmp xs) (sym (any-rearranged (λ y. is_eq (cmp x y)) (rearranged-in_order cmp xs)) ∙ not-true _ parts.0) (rises-in_order xs parts.1)
 
 -- what rises stands in order
 pub in_order_rising : {X : Type 0} (cmp : X → X → Ordering) (xs : List X) → rises cmp xs ≡ true → in_order cmp xs ≡ xs

@@ -12,18 +12,13 @@ use Rattle.blink_lists.specs.Lists.{put_in_order, in_order, once_each}
 use Rattle.blink_lists.specs.Rearrangement.{Rearranged}
 use Rattle.blink_lists.specs.Rearrangement.Rearranged.{kept, swapped, followed}
 use Rattle.blink_lists.proofs.RearrangementLemmas.{itself}
+use Rattle.blink_lists.proofs.BoolLemmas.{or-swap}
 use Rattle.blink_lists.proofs.OrderLemmas.{in_order_rearranged}
 
 is_eq-reverse : (r : Ordering) → is_eq (ordering_reverse r) ≡ is_eq r
 is_eq-reverse Less = refl
 is_eq-reverse Equal = refl
 is_eq-reverse Greater = refl
-
-or-swap : (a b c : Bool) → (a || (b || c)) ≡ (b || (a || c))
-or-swap true true c = refl
-or-swap true false c = refl
-or-swap false true c = refl
-or-swap false false c = refl
 
 module _ {K : Type 0} (cmp : K → K → Ordering) (o : IsTotalOrder cmp) (one : (x y : K) → cmp x y ≡ Equal → x ≡ y) where
   abbrev same : K → K → Bool
