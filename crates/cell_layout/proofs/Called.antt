@@ -67,7 +67,7 @@ fits_entries schema rows all =
     all-imply (λ p. list_all (λ row. entry row p) rows) (are_entries rows)
     (λ p h. list_all-map (is_entry p.1.kind) (λ (row : Row). get_or row p.0 (Int (pos 0))) rows ∙ h) (numbered schema.columns)
     (all-swap entry rows (numbered schema.columns)
-    (all-imply (fits schema) (λ row. list_all (entry row) (numbered schema.columns))
+    ∙ (all-imply (fits schema) (λ row. list_all (entry row) (numbered schema.columns))
     (λ row h. let parts = and_parts (length row == length schema.columns) (list_all (λ p. is_entry p.0.kind p.1) (zip schema.columns row)) h in
     row_entries schema.columns row row 0 (Int (pos 0)) (eqb-true (length row) (length schema.columns) parts.0) (λ k. ap (λ j. get_or row j (Int (pos 0))) (omega arith)) parts.1) rows all))
 

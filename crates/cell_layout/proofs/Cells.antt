@@ -19,7 +19,7 @@ use Rattle.blink_lists.proofs.BoolLemmas.{all_both}
 use Rattle.blink_lists.proofs.AllLemmas.{all-part, all-passing}
 use Rattle.blink_lists.proofs.DistinctLemmas.{distinct-rearranged}
 use Rattle.cell_layout.proofs.Groups.{has_keys}
-use Rattle.blink_lists.specs.Groups.{with_key}
+use Rattle.blink_lists.specs.Groups.{IsSame, with_key}
 use Rattle.cell_layout.proofs.Coded.{is_whole, all_back}
 
 pub same_is : (x y : List ℕ) → same_cell x y ≡ true → x ≡ y
@@ -31,6 +31,9 @@ same_itself x = (eq_by_cmp_equiv nat_list_cmp_total).refl x
 pub same_back : (x y : List ℕ) → same_cell x y ≡ same_cell y x
 same_back x y = (eq_by_cmp_equiv nat_list_cmp_total).symm x y
 
+pub cells_same : IsSame same_cell
+cells_same = record { one = same_is; itself = same_itself; back = same_back }
+
 -- the class numbers of the cells
 abbrev pub cell_keys : List CodedRow → List (List ℕ)
 cell_keys rows = in_order cell_cmp (once_each same_cell (map (λ r. r.classes) rows))
@@ -38,13 +41,13 @@ cell_keys rows = in_order cell_cmp (once_each same_cell (map (λ r. r.classes) r
 distinct_cells : (rows : List CodedRow) → are_distinct same_cell (cell_keys rows) ≡ true
 distinct_cells rows =
     let found = once_each same_cell (map (λ r. r.classes) rows) in
-    sym (distinct-rearranged same_cell same_back (rearranged-in_order cell_cmp found)) ∙ once_each-distinct same_cell (map (λ r. r.classes) rows)
+    sym (distinct-rearranged same_cell same_back (rearranged-in_order cell_cmp found)) ∙ once_each-distinct same_cell cells_same (map (λ r. r.classes) rows)
 
-has_cells : (rows : List CodedRow) → has_keys same_cell (λ r. r.classes) (cell_keys rows) rows ≡ true
+has_cells : (rows : List CodedRow) → list_all (λ r. list_any (λ k. same_cell k r.classes) (cell_keys rows)) rows ≡ true
 has_cells rows =
     let found = once_each same_cell (map (λ r. r.classes) rows) in
     all-imply (λ r. list_any (λ k. same_cell k r.classes) found) (λ r. list_any (λ k. same_cell k r.classes) (cell_keys rows))
-    (λ r h. sym (any-rearranged (λ k. same_cell k r.classes) (rearranged-in_order cell_cmp found)) ∙ h) rows (covers_once same_cell (λ r. r.classes) same_is same_itself rows)
+    (λ r h. sym (any-rearranged (λ k. same_cell k r.classes) (rearranged-in_order cell_cmp found)) ∙ h) rows (covers_once same_cell cells_same (λ r. r.classes) rows)
 
 -- a row as its own class numbers and codes say
 abbrev pub row_back : List Classes → CodedRow → Row
@@ -72,7 +75,7 @@ all_cells_back image (k ∷ ks) rows =
 cells_rearranged : (image : TableImage) (rows : List CodedRow) → Rearranged (map (row_back image.columns) rows) (flat_map (cell_rows image) (cells_of rows))
 cells_rearranged image rows =
     subst (λ l. Rearranged (map (row_back image.columns) rows) l) (all_cells_back image (cell_keys rows) rows)
-    (map-rearranged (row_back image.columns) (by_keys same_cell (λ r. r.classes) same_is (cell_keys rows) rows (distinct_cells rows) (has_cells rows)))
+    (map-rearranged (row_back image.columns) (by_keys same_cell cells_same (λ r. r.classes) (cell_keys rows) rows (has_cells rows) (distinct_cells rows)))
 
 pub whole_rows : (columns : List Classes) (rows : List Row) → list_all (λ row. length row == length columns) rows ≡ true → list_all (is_whole columns) (filter (is_coded columns) rows) ≡ true
 whole_rows columns rows long =

@@ -9,8 +9,9 @@ use Rattle.blink_lists.specs.Rearrangement.{Rearranged}
 use Rattle.blink_lists.proofs.RearrangementLemmas.{map-rearranged, length-rearranged}
 use Rattle.blink_base.specs.declared.value.Value.{Value}
 use Rattle.blink_base.specs.declared.value.Kind.{Kind}
-use Rattle.blink_base.specs.Values.{same_value}
-use Rattle.blink_base.specs.ValueOrder.{value_total}
+use Rattle.blink_base.specs.Values.{value_cmp, same_value}
+use Rattle.blink_base.specs.ValueOrder.{value_total, value_same}
+use Rattle.blink_lists.specs.Groups.{IsSame}
 use Rattle.blink_base.specs.RowFits.{is_entry}
 use Rattle.blink_histogram.specs.Ranks.{Counted, distinct_values, count_of, counted, rank_cmp, ranked}
 use Rattle.order_codes.specs.Dictionary.{is_class, are_classes}
@@ -19,7 +20,7 @@ use Rattle.cell_layout.specs.Layout.{in_pieces, classes_by, division_if, counts_
 use Rattle.blink_lists.proofs.AllLemmas.{all-rearranged, all-once_each}
 use Rattle.blink_lists.proofs.GroupLemmas.{once_each-distinct}
 use Rattle.blink_lists.proofs.DistinctLemmas.{distinct-rearranged, length-filter-le, length-once_each-le}
-use Rattle.blink_lists.proofs.OrderLemmas.{rearranged-in_order}
+use Rattle.blink_lists.proofs.OrderLemmas.{equal_is, rearranged-in_order}
 use Rattle.cell_layout.proofs.Sizes.{sizes_if}
 use Rattle.cell_layout.proofs.ClassPieces.{length-in_pieces, joined-in_pieces, all_pieces, class_of_piece, pieces-joined, all_classes_of}
 
@@ -32,11 +33,11 @@ ranked_values : (column : List Value) → Rearranged (distinct_values column) (m
 ranked_values column =
     subst (λ l. Rearranged l (map (λ (c : Counted). c.0) (ranked column))) (firsts (count_of column) (distinct_values column)) (map-rearranged (λ (c : Counted). c.0) (rearranged-in_order rank_cmp (counted column)))
 
-same_value_back : (x y : Value) → same_value x y ≡ same_value y x
-same_value_back x y = (eq_by_cmp_equiv value_total).symm x y
+values_same : IsSame same_value
+values_same = record { one = λ x y e. value_same x y (equal_is (value_cmp x y) e); itself = (eq_by_cmp_equiv value_total).refl; back = (eq_by_cmp_equiv value_total).symm }
 
 ranked_apart : (column : List Value) → are_distinct same_value (map (λ c. c.0) (ranked column)) ≡ true
-ranked_apart column = sym (distinct-rearranged same_value same_value_back (ranked_values column)) ∙ once_each-distinct same_value column
+ranked_apart column = sym (distinct-rearranged same_value values_same.back (ranked_values column)) ∙ once_each-distinct same_value values_same column
 
 pub length-ranked-le : (column : List Value) → length (ranked column) ≤ length column
 length-ranked-le column =
@@ -74,7 +75,7 @@ by_pieces column sizes has few =
     let long : length classes ≡ length sizes = length-map pieces class_of_piece ∙ length-in_pieces sizes values in
     and_from (nat_le (length classes) 4 && list_all is_class classes) (are_distinct same_value (joined classes))
     (and_from (nat_le (length classes) 4) (list_all is_class classes) (ap (λ n. nat_le n 4) long ∙ has.few) (all_classes_of pieces (all_pieces MOST_ROWS sizes values (omega arith) has.each has.all) apart))
-    (sym (distinct-rearranged same_value same_value_back (pieces-joined pieces)) ∙ apart)
+    (sym (distinct-rearranged same_value values_same.back (pieces-joined pieces)) ∙ apart)
 
 entries : (kind : Kind) (column : List Value) (sizes : List ℕ) → HasPieces column sizes → list_all (is_entry kind) column ≡ true → list_all (is_entry kind) (joined (classes_by (ranked column) sizes)) ≡ true
 entries kind column sizes has all =

@@ -8,7 +8,9 @@ use Rattle.blink_base.specs.declared.schema.Column.{Column}
 use Rattle.std.proofs.lemmas.List.{length-map}
 use Rattle.std.proofs.lemmas.List.Folds.{list_all-map}
 use Rattle.blink_lists.specs.Lists.{once_each, rises}
+use Rattle.blink_lists.specs.Groups.{IsSame}
 use Rattle.blink_lists.specs.Rearrangement.{Rearranged}
+use Rattle.blink_lists.proofs.ChoiceLemmas.{any-map}
 use Rattle.blink_lists.proofs.RearrangementLemmas.{map-rearranged}
 use Rattle.blink_base.specs.declared.schema.Schema.{Schema}
 use Rattle.blink_base.specs.declared.value.Value.TheVariants.{Int}
@@ -26,12 +28,8 @@ use Rattle.blink_lists.proofs.DistinctLemmas.{distinct-rearranged, length-filter
 use Rattle.blink_lists.proofs.OrderLemmas.{rearranged-in_order}
 use Rattle.blink_lists.proofs.RisingLemmas.{rises-in_order}
 use Rattle.cell_layout.proofs.Coded.{are_numbers, is_placed, all_placed}
-use Rattle.cell_layout.proofs.Cells.{same_is, same_itself, cell_keys, whole_rows, placed-rearranged}
+use Rattle.cell_layout.proofs.Cells.{same_is, same_itself, same_back, cells_same, cell_keys, whole_rows, placed-rearranged}
 use Rattle.blink_lists.proofs.ChoiceLemmas.{any-map}
-
-any-map : {X Y : Type 0} (p : Y → Bool) (f : X → Y) (xs : List X) → list_any p (map f xs) ≡ list_any (λ x. p (f x)) xs
-any-map p f [] = refl
-any-map p f (x ∷ xs) = ap (λ b. p (f x) || b) (any-map p f xs)
 
 -- the class numbers of the cells pass what those of all rows pass
 all_cell_keys : (p : List ℕ → Bool) (rows : List CodedRow) → list_all p (map (λ r. r.classes) rows) ≡ true → list_all p (cell_keys rows) ≡ true
@@ -42,10 +40,13 @@ all_cell_keys p rows all =
 pub filled_cells : (rows : List CodedRow) → list_all (λ k. list_any (λ r. same_cell k r.classes) rows) (cell_keys rows) ≡ true
 filled_cells rows = all_cell_keys (λ k. list_any (λ r. same_cell k r.classes) rows) rows (list_all-map (λ k. list_any (λ r. same_cell k r.classes) rows) (λ (r : CodedRow). r.classes) rows ∙ own)
   where
+    turned : IsSame (λ a b. same_cell b a)
+    turned = record { one = λ a b e. sym (same_is b a e); itself = same_itself; back = λ a b. same_back b a }
+
     own : list_all (λ q. list_any (λ r. same_cell q.classes r.classes) rows) rows ≡ true
     own = all-imply (λ q. list_any (same_cell q.classes) (map (λ r. r.classes) rows)) (λ q. list_any (λ r. same_cell q.classes r.classes) rows)
         (λ q h. sym (any-map (same_cell q.classes) (λ (r : CodedRow). r.classes) rows) ∙ h) rows
-        (covers-self (λ a b. same_cell b a) (λ (r : CodedRow). r.classes) (λ j k e. sym (same_is k j e)) same_itself rows)
+        (covers-self (λ a b. same_cell b a) turned (λ (r : CodedRow). r.classes) rows)
 
 -- the codes of a cell
 cell_codes : (columns : List Classes) (k : List ℕ) (rows : List CodedRow) → list_all (is_placed columns) rows ≡ true → list_all (are_codes columns k) (map (λ r. r.codes) (filter (λ r. same_cell k r.classes) rows)) ≡ true
@@ -84,7 +85,7 @@ keys_of_cells rows (k ∷ ks) = ap (λ l. k ∷ l) (keys_of_cells rows ks)
 
 -- cells stand in order
 pub cells_rise : (rows : List CodedRow) → rises cell_cmp (map (λ cell. cell.classes) (cells_of rows)) ≡ true
-cells_rise rows = ap (rises cell_cmp) (keys_of_cells rows (cell_keys rows)) ∙ rises-in_order cell_cmp nat_list_cmp_total (once_each same_cell (map (λ r. r.classes) rows)) (once_each-distinct same_cell (map (λ r. r.classes) rows))
+cells_rise rows = ap (rises cell_cmp) (keys_of_cells rows (cell_keys rows)) ∙ rises-in_order cell_cmp nat_list_cmp_total (once_each same_cell (map (λ r. r.classes) rows)) (once_each-distinct same_cell cells_same (map (λ r. r.classes) rows))
 
 -- each column's classes are classes
 zip_classes : (schema : List Column) (columns : List Classes) → length columns ≡ length schema → list_all (λ p. are_column_classes p.0 p.1) (zip schema columns) ≡ true → list_all are_classes columns ≡ true

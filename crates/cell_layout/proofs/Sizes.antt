@@ -12,18 +12,11 @@ use Rattle.freq_partition.specs.Division.{Division, division_cmp, better, best_d
 use Rattle.blink_lists.proofs.SumLemmas.{sum-cons}
 use Rattle.cell_layout.specs.Layout.{division_if}
 use Rattle.blink_lists.proofs.GroupLemmas.{all-imply}
-use Rattle.blink_lists.proofs.AllLemmas.{all-passing}
+use Rattle.blink_lists.proofs.AllLemmas.{all-passing, all-flat_map}
 
 -- at most so many sizes, each at least 1, together n
 abbrev pub are_sizes : ℕ → ℕ → List ℕ → Bool
 are_sizes most n sizes = nat_le (length sizes) most && list_all (nat_le 1) sizes && sum sizes == n
-
--- what each part passes, the whole does
-pub all-flat_map : {X Y : Type 0} (q : X → Bool) (p : Y → Bool) (f : X → List Y) → ((x : X) → q x ≡ true → list_all p (f x) ≡ true) → (xs : List X) → list_all q xs ≡ true → list_all p (flat_map f xs) ≡ true
-all-flat_map q p f each [] all = refl
-all-flat_map q p f each (x ∷ xs) all =
-    let parts = and_parts (q x) (list_all q xs) all in
-    list_all-append p (f x) (flat_map f xs) ∙ and_from (list_all p (f x)) (list_all p (flat_map f xs)) (each x parts.0) (all-flat_map q p f each xs parts.1)
 
 -- one size more in front
 sizes-cons : (most n s : ℕ) (sizes : List ℕ) → 1 ≤ s → s ≤ n → are_sizes most (n - s) sizes ≡ true → are_sizes (suc most) n (s ∷ sizes) ≡ true
@@ -49,7 +42,8 @@ unfolding fronts
 fronts_good zero least n some = and_from (are_sizes 1 n (n ∷ [])) true (sizes-one 0 n some) refl
 fronts_good (suc more) least n some =
     and_from (are_sizes (suc (suc more)) n (n ∷ [])) _ (sizes-one (suc more) n some)
-    (all-flat_map test good with_front (each (λ w some_left. fronts_good more w (n - 2 ^ w) some_left)) (filter test (numbers_from least (MOST_WIDTH + 1 - least))) (all-passing test (numbers_from least (MOST_WIDTH + 1 - least))))
+    (all-flat_map good with_front (filter test (numbers_from least (MOST_WIDTH + 1 - least)))
+    ∙ all-imply test (λ w. list_all good (with_front w)) (each (λ w some_left. fronts_good more w (n - 2 ^ w) some_left)) (filter test (numbers_from least (MOST_WIDTH + 1 - least))) (all-passing test (numbers_from least (MOST_WIDTH + 1 - least))))
   where
     test : ℕ → Bool
     test w = nat_lt (2 ^ w) n && nat_le w (width_for (n - 2 ^ w))
