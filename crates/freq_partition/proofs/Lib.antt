@@ -4,7 +4,6 @@ pub mod FillLemmas
 pub mod LeastCostLemmas
 pub mod Ones
 pub mod PaddingLemmas
-pub mod PowerLemmas
 pub mod PrefixSumLemmas
 pub mod SearchLemmas
 pub mod TighterFillLemmas

@@ -2,7 +2,7 @@
 use Rattle.std.proofs.Common.{ℕ, zero, suc, ◌≤◌, ◌≡◌, replicate, sum, All, true, refl, arith, le_refl}
 use Rattle.std.proofs.lemmas.List.Elements.{All-replicate}
 use Rattle.freq_partition.specs.Division.{never_rises}
-use Rattle.freq_partition.proofs.PrefixSumLemmas.{sum-cons}
+use Rattle.blink_lists.proofs.SumLemmas.{sum-cons}
 
 ones_rank : (n : ℕ) → never_rises (replicate n 1) ≡ true
 ones_rank zero = refl

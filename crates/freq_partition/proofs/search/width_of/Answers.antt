@@ -1,6 +1,6 @@
 -- No narrower width holds n: the next may be the least.
 use Rattle.std.proofs.Common.{◌≡◌, arith, sym, ◌∙◌}
-use Rattle.freq_partition.proofs.PowerLemmas.{width_from_first, width_from_here, width_from_next, width_from_last}
+use Rattle.blink_lists.proofs.WidthLemmas.{width_from_first, width_from_here, width_from_next, width_from_last}
 use Rattle.freq_partition.proofs.search.width_of.Goals as goal
 
 pub loop-width-init : goal.loop-width-init
