@@ -1,7 +1,7 @@
 -- Tests of all elements of a list, whatever their order and however they are grouped.
-use Rattle.std.proofs.Common.{◌≡◌, ℕ, ◌==◌, Bool, true, false, ◌&&◌, List, [], ◌∷◌, ◌++◌, map, filter, refl, sym, ap, ◌∙◌}
+use Rattle.std.proofs.Common.{◌≡◌, ◌<◌, ℕ, zero, suc, ◌==◌, Bool, true, false, not, ◌&&◌, List, [], ◌∷◌, map, filter, length, get_or, refl, sym, ap, ◌∙◌, arith}
 use Rattle.std.specs.List.{list_all, flat_map}
-use Rattle.std.proofs.lemmas.Bool.{eqb-true, eq-eqb}
+use Rattle.std.proofs.lemmas.Bool.{and_parts, and_from, eqb-true, eq-eqb}
 use Rattle.std.proofs.lemmas.List.Folds.{list_all-append}
 use Rattle.blink_lists.specs.Lists.{once_each, joined}
 use Rattle.blink_lists.specs.Rearrangement.{Rearranged}
@@ -58,3 +58,33 @@ numbers_same = record { one = eqb-true; itself = λ a. eq-eqb a a refl; back = b
 pub all-by_key : {X K : Type 0} (eq : K → K → Bool) → IsSame eq → (key : X → K) (p : X → Bool) (xs : List X)
     → list_all (λ k. list_all p (with_key eq key xs k)) (once_each eq (map key xs)) ≡ list_all p xs
 all-by_key eq s key p xs = sym (all-rearranged p (groups_rearrange eq s key xs) ∙ all-flat_map p (with_key eq key xs) (once_each eq (map key xs)))
+
+-- a part passes what the whole passes
+pub all-part : {X : Type 0} (p q : X → Bool) (xs : List X) → list_all p xs ≡ true → list_all p (filter q xs) ≡ true
+all-part p q [] all = refl
+all-part p q (x ∷ xs) all = by (q x) refl (and_parts (p x) (list_all p xs) all).0 (all-part p q xs (and_parts (p x) (list_all p xs) all).1)
+  where
+    by : (b : Bool) → q x ≡ b → p x ≡ true → list_all p (filter q xs) ≡ true → list_all p (filter q (x ∷ xs)) ≡ true
+    by true e here rest = rw e (and_from (p x) (list_all p (filter q xs)) here rest)
+    by false e here rest = rw e rest
+
+-- what a filter lets through passes it
+pub all-passing : {X : Type 0} (p : X → Bool) (xs : List X) → list_all p (filter p xs) ≡ true
+all-passing p [] = refl
+all-passing p (x ∷ xs) = by (p x) refl (all-passing p xs)
+  where
+    by : (b : Bool) → p x ≡ b → list_all p (filter p xs) ≡ true → list_all p (filter p (x ∷ xs)) ≡ true
+    by true e rest = rw e (and_from (p x) (list_all p (filter p xs)) e rest)
+    by false e rest = rw e rest
+
+pub all-once_each : {X : Type 0} (eq : X → X → Bool) (p : X → Bool) (xs : List X) → list_all p xs ≡ true → list_all p (once_each eq xs) ≡ true
+all-once_each eq p [] all = refl
+all-once_each eq p (x ∷ xs) all =
+    let parts = and_parts (p x) (list_all p xs) all in
+    and_from (p x) (list_all p (filter (λ y. not (eq x y)) (once_each eq xs))) parts.0 (all-part p (λ y. not (eq x y)) (once_each eq xs) (all-once_each eq p xs parts.1))
+
+-- an element of a list that passes throughout
+pub all_at : {X : Type 0} (p : X → Bool) (xs : List X) (i : ℕ) (d : X) → list_all p xs ≡ true → i < length xs → p (get_or xs i d) ≡ true
+all_at p [] i d all lt = absurd (omega arith)
+all_at p (x ∷ xs) zero d all lt = (and_parts (p x) (list_all p xs) all).0
+all_at p (x ∷ xs) (suc i) d all lt = all_at p xs i d (and_parts (p x) (list_all p xs) all).1 (omega arith)

@@ -1,6 +1,7 @@
 -- Tests of all elements of a list.
 use Rattle.std.proofs.Common.{◌≡◌, ◌+◌, Bool, true, false, not, ◌&&◌, ◌||◌, List, [], ◌∷◌, filter, find, count_by, Some, cond, refl, sym, ap, ◌∙◌, true≢false, arith}
 use Rattle.std.specs.List.{list_all, list_any}
+use Rattle.std.proofs.lemmas.Bool.{and_from}
 use Rattle.std.proofs.lemmas.List.Sums.{sum_by-cons}
 use Rattle.blink_lists.proofs.AllLemmas.{all-alike}
 
@@ -24,6 +25,12 @@ and-pairs true true false d = refl
 and-pairs true false false d = refl
 and-pairs false b c d = refl
 
+pub or-swap : (a b c : Bool) → (a || (b || c)) ≡ (b || (a || c))
+or-swap true true c = refl
+or-swap true false c = refl
+or-swap false true c = refl
+or-swap false false c = refl
+
 pub and-comm : (a b : Bool) → (a && b) ≡ (b && a)
 and-comm true true = refl
 and-comm true false = refl
@@ -38,6 +45,9 @@ module _ {X : Type 0} where
   pub all-and : (p q : X → Bool) (xs : List X) → list_all (λ x. p x && q x) xs ≡ (list_all p xs && list_all q xs)
   all-and p q [] = refl
   all-and p q (x ∷ xs) = ap (λ b. (p x && q x) && b) (all-and p q xs) ∙ and-pairs (p x) (q x) (list_all p xs) (list_all q xs)
+
+  pub all_both : (p q : X → Bool) (xs : List X) → list_all p xs ≡ true → list_all q xs ≡ true → list_all (λ x. p x && q x) xs ≡ true
+  all_both p q xs first second = all-and p q xs ∙ and_from (list_all p xs) (list_all q xs) first second
 
   pub all-same-if : (g p q : X → Bool) → ((x : X) → g x ≡ true → p x ≡ q x) → (xs : List X) → list_all g xs ≡ true → list_all p xs ≡ list_all q xs
   all-same-if g p q h [] all = refl

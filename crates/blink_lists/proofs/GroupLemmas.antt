@@ -3,8 +3,8 @@ use Rattle.std.proofs.Common.{◌≡◌, Bool, true, false, not, ◌&&◌, ◌||
 use Rattle.std.specs.List.{list_any, list_all, flat_map}
 use Rattle.blink_lists.specs.Lists.{once_each, are_distinct}
 use Rattle.blink_lists.specs.Rearrangement.{Rearranged}
-use Rattle.blink_lists.specs.Rearrangement.Rearranged.{none, kept, swapped, followed}
-use Rattle.blink_lists.proofs.RearrangementLemmas.{itself, in_front, moved}
+use Rattle.blink_lists.specs.Rearrangement.Rearranged.{none, kept, followed}
+use Rattle.blink_lists.proofs.RearrangementLemmas.{in_front, moved}
 use Rattle.blink_lists.specs.Groups.{IsSame, with_key}
 
 pub both : (a b : Bool) → (a && b) ≡ true → (a ≡ true) × (b ≡ true)
@@ -87,8 +87,8 @@ module _ {X : Type 0} where
       by true e r = rw e r
       by false e r = rw (e, e) r
 
-module _ {K : Type 0} (eq : K → K → Bool) (s : IsSame eq) where
-  distinct-filter : (p : K → Bool) (ks : List K) → are_distinct eq ks ≡ true → are_distinct eq (filter p ks) ≡ true
+module _ {K : Type 0} (eq : K → K → Bool) where
+  pub distinct-filter : (p : K → Bool) (ks : List K) → are_distinct eq ks ≡ true → are_distinct eq (filter p ks) ≡ true
   distinct-filter p [] d = refl
   distinct-filter p (k ∷ ks) d =
       let b = both (not (list_any (eq k) ks)) (are_distinct eq ks) d in
@@ -98,9 +98,10 @@ module _ {K : Type 0} (eq : K → K → Bool) (s : IsSame eq) where
       by true e n r = rw (e, any-fewer p (eq k) ks (not_true (list_any (eq k) ks) n)) r
       by false e n r = rw e r
 
+module _ {K : Type 0} (eq : K → K → Bool) (s : IsSame eq) where
   pub once_each-distinct : (ks : List K) → are_distinct eq (once_each eq ks) ≡ true
   once_each-distinct [] = refl
-  once_each-distinct (k ∷ ks) = rw (none-left (eq k) (once_each eq ks)) (distinct-filter (λ y. not (eq k y)) (once_each eq ks) (once_each-distinct ks))
+  once_each-distinct (k ∷ ks) = rw (none-left (eq k) (once_each eq ks)) (distinct-filter eq (λ y. not (eq k y)) (once_each eq ks) (once_each-distinct ks))
 
   -- what is there once is there
   pub once_each-any : (a : K) (ks : List K) → list_any (λ k. eq k a) (once_each eq ks) ≡ list_any (λ k. eq k a) ks
@@ -150,7 +151,7 @@ module _ {X K : Type 0} (eq : K → K → Bool) (s : IsSame eq) (key : X → K) 
       followed (parted (λ x. eq k (key x)) xs)
       (in_front (with_key eq key xs k) (subst (λ l. Rearranged (filter (λ x. not (eq k (key x))) xs) l) same rest))
 
-  covers-self : (xs : List X) → list_all (stands (map key xs)) xs ≡ true
+  pub covers-self : (xs : List X) → list_all (stands (map key xs)) xs ≡ true
   covers-self [] = refl
   covers-self (x ∷ xs) =
       and_both (stands (map key (x ∷ xs)) x) (list_all (stands (map key (x ∷ xs))) xs) (rw (s.itself (key x)) refl)

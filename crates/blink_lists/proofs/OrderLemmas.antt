@@ -4,7 +4,7 @@ use Rattle.std.specs.Bool.{⊤}
 use native.Mathlib.Numerals.{unary_clauses}
 use Rattle.std.specs.declared.cmp.Ordering.{Ordering}
 use Rattle.std.specs.declared.cmp.Ordering.TheVariants.{Less, Equal, Greater}
-use Rattle.std.specs.Ordering.{is_lt, is_le, ordering_reverse}
+use Rattle.std.specs.Ordering.{is_lt, is_le, is_eq, ordering_reverse}
 use Rattle.std.specs.Cmp.{IsTotalOrder, IsStrictWeakOrder}
 use Rattle.std.specs.List.Sorted.{IsSorted, IsPermutation}
 use Rattle.std.proofs.lemmas.List.MinMax.{ranks_by}
@@ -12,7 +12,19 @@ use Rattle.std.proofs.lemmas.List.Sums.{sum_by-cons}
 use Rattle.std.proofs.lemmas.List.Sorted.{sum_by-IsPermutation}
 use Rattle.blink_lists.specs.Lists.{put_in_order, in_order}
 use Rattle.blink_lists.specs.Rearrangement.{Rearranged}
-use Rattle.blink_lists.proofs.RearrangementLemmas.{sum-rearranged}
+use Rattle.blink_lists.specs.Rearrangement.Rearranged.{none, kept, swapped, followed}
+use Rattle.blink_lists.proofs.RearrangementLemmas.{sum-rearranged, itself as unmoved}
+
+-- orderings and their tests
+pub less_is : (o : Ordering) → is_lt o ≡ true → o ≡ Less
+less_is Less e = refl
+less_is Equal e = cc
+less_is Greater e = cc
+
+pub equal_is : (o : Ordering) → is_eq o ≡ true → o ≡ Equal
+equal_is Less e = cc
+equal_is Equal e = refl
+equal_is Greater e = cc
 
 behind : (r : Ordering) → is_le r ≡ false → is_lt r ≡ false
 behind Less h = absurd (true≢false h)
@@ -150,3 +162,17 @@ module _ {X : Type 0} (cmp : X → X → Ordering) where
       pub in_order_rearranged : (xs ys : List X) → Rearranged xs ys → in_order cmp xs ≡ in_order cmp ys
       in_order_rearranged xs ys r = alike (in_order cmp xs) (in_order cmp ys) (Rising-in_order xs) (Rising-in_order ys)
           (λ f. sum-in_order f xs ∙ sum-rearranged f r ∙ sym (sum-in_order f ys))
+
+-- a list put in order is the list in another order
+module _ {X : Type 0} (cmp : X → X → Ordering) where
+  rearranged-put : (x : X) (ys : List X) → Rearranged (x ∷ ys) (put_in_order cmp x ys)
+  rearranged-put x [] = unmoved (x ∷ [])
+  rearranged-put x (y ∷ ys) = by (is_le (cmp x y)) refl (rearranged-put x ys)
+    where
+      by : (b : Bool) → is_le (cmp x y) ≡ b → Rearranged (x ∷ ys) (put_in_order cmp x ys) → Rearranged (x ∷ y ∷ ys) (put_in_order cmp x (y ∷ ys))
+      by true e rest = rw (put_in_order, e) (unmoved (x ∷ y ∷ ys))
+      by false e rest = rw (put_in_order, e) (followed (swapped x y ys) (kept y rest))
+
+  pub rearranged-in_order : (xs : List X) → Rearranged xs (in_order cmp xs)
+  rearranged-in_order [] = none
+  rearranged-in_order (x ∷ xs) = followed (kept x (rearranged-in_order xs)) (rearranged-put x (in_order cmp xs))

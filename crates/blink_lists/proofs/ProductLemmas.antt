@@ -5,8 +5,8 @@ use Rattle.std.specs.Option.{option_to_list}
 use Rattle.std.proofs.lemmas.List.{append-nil, append_assoc, map-append}
 use Rattle.blink_lists.specs.Lists.{choices}
 use Rattle.blink_lists.specs.Rearrangement.{Rearranged}
-use Rattle.blink_lists.specs.Rearrangement.Rearranged.{none, kept, swapped, followed}
-use Rattle.blink_lists.proofs.RearrangementLemmas.{itself, in_front, behind, map-rearranged, moved, exchanged}
+use Rattle.blink_lists.specs.Rearrangement.Rearranged.{none, followed}
+use Rattle.blink_lists.proofs.RearrangementLemmas.{itself, in_front, behind, map-rearranged, exchanged}
 use Rattle.blink_lists.proofs.GroupLemmas.{filter-alike}
 use Rattle.blink_lists.specs.Products.{each_filtered, each_passes, with_one, all_there}
 

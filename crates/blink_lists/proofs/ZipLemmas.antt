@@ -1,7 +1,44 @@
--- Pairs of two lists, one behind the other.
-use Rattle.std.proofs.Common.{◌≡◌, ◌<◌, ℕ, zero, suc, Bool, true, List, [], ◌∷◌, ◌++◌, length, drop, get_or, ◌&&◌, refl, ap, sym, ◌∙◌, arith}
+-- Lists side by side.
+use Rattle.std.proofs.Common.{◌≡◌, ◌<◌, ℕ, zero, suc, Bool, true, List, [], ◌∷◌, ◌++◌, map, length, drop, get_or, ◌&&◌, refl, ap, sym, ◌∙◌, arith}
 use Rattle.std.specs.List.{list_all, zip}
 use Rattle.std.proofs.lemmas.Bool.{and_parts, and_from}
+
+-- element by element of three lists
+pub zip-at : {X Y Z : Type 0} (p : (X × Y) × Z → Bool) (xs : List X) (ys : List Y) (zs : List Z) (i : ℕ) (x : X) (y : Y) (z : Z) → list_all p (zip (zip xs ys) zs) ≡ true
+    → i < length xs → length ys ≡ length xs → length zs ≡ length xs → p ((get_or xs i x, get_or ys i y), get_or zs i z) ≡ true
+zip-at p [] ys zs i x y z all lt e k = absurd (omega arith)
+zip-at p (a ∷ xs) [] zs i x y z all lt e k = absurd (omega arith)
+zip-at p (a ∷ xs) (b ∷ ys) [] i x y z all lt e k = absurd (omega arith)
+zip-at p (a ∷ xs) (b ∷ ys) (c ∷ zs) zero x y z all lt e k = (and_parts (p ((a, b), c)) (list_all p (zip (zip xs ys) zs)) all).0
+zip-at p (a ∷ xs) (b ∷ ys) (c ∷ zs) (suc i) x y z all lt e k = zip-at p xs ys zs i x y z (and_parts (p ((a, b), c)) (list_all p (zip (zip xs ys) zs)) all).1 (omega arith) (omega arith) (omega arith)
+
+pub map-zip-at : {X Y Z A : Type 0} (f : (X × Y) × Z → A) (xs : List X) (ys : List Y) (zs : List Z) (i : ℕ) (x : X) (y : Y) (z : Z) (d : A)
+    → i < length xs → length ys ≡ length xs → length zs ≡ length xs → get_or (map f (zip (zip xs ys) zs)) i d ≡ f ((get_or xs i x, get_or ys i y), get_or zs i z)
+map-zip-at f [] ys zs i x y z d lt e k = absurd (omega arith)
+map-zip-at f (a ∷ xs) [] zs i x y z d lt e k = absurd (omega arith)
+map-zip-at f (a ∷ xs) (b ∷ ys) [] i x y z d lt e k = absurd (omega arith)
+map-zip-at f (a ∷ xs) (b ∷ ys) (c ∷ zs) zero x y z d lt e k = refl
+map-zip-at f (a ∷ xs) (b ∷ ys) (c ∷ zs) (suc i) x y z d lt e k = map-zip-at f xs ys zs i x y z d (omega arith) (omega arith) (omega arith)
+
+pub length-map-zip : {X Y Z A : Type 0} (f : (X × Y) × Z → A) (xs : List X) (ys : List Y) (zs : List Z) → length ys ≡ length xs → length zs ≡ length xs → length (map f (zip (zip xs ys) zs)) ≡ length xs
+length-map-zip f [] ys zs e k = refl
+length-map-zip f (a ∷ xs) [] zs e k = absurd (omega arith)
+length-map-zip f (a ∷ xs) (b ∷ ys) [] e k = absurd (omega arith)
+length-map-zip f (a ∷ xs) (b ∷ ys) (c ∷ zs) e k = let rest = length-map-zip f xs ys zs (omega arith) (omega arith) in omega arith
+
+-- tests that hold of each
+pub zip-all : {X Y Z : Type 0} (p : (X × Y) × Z → Bool) (xs : List X) (ys : List Y) (zs : List Z) (x : X) (y : Y) (z : Z) → length ys ≡ length xs → length zs ≡ length xs
+    → ((k : ℕ) → k < length xs → p ((get_or xs k x, get_or ys k y), get_or zs k z) ≡ true) → list_all p (zip (zip xs ys) zs) ≡ true
+zip-all p [] ys zs x y z e k each = refl
+zip-all p (a ∷ xs) [] zs x y z e k each = absurd (omega arith)
+zip-all p (a ∷ xs) (b ∷ ys) [] x y z e k each = absurd (omega arith)
+zip-all p (a ∷ xs) (b ∷ ys) (c ∷ zs) x y z e k each =
+    and_from (p ((a, b), c)) (list_all p (zip (zip xs ys) zs)) (each 0 (omega arith)) (zip-all p xs ys zs x y z (omega arith) (omega arith) (λ i lt. each (suc i) (omega arith)))
+
+pub pair-all : {X Y : Type 0} (p : X × Y → Bool) (xs : List X) (ys : List Y) (x : X) (y : Y) → length ys ≡ length xs → ((k : ℕ) → k < length xs → p (get_or xs k x, get_or ys k y) ≡ true) → list_all p (zip xs ys) ≡ true
+pair-all p [] ys x y e each = refl
+pair-all p (a ∷ xs) [] x y e each = absurd (omega arith)
+pair-all p (a ∷ xs) (b ∷ ys) x y e each = and_from (p (a, b)) (list_all p (zip xs ys)) (each 0 (omega arith)) (pair-all p xs ys x y (omega arith) (λ i lt. each (suc i) (omega arith)))
 
 module _ {A B : Type 0} where
   -- the next pair of two lists of one length

@@ -1,7 +1,6 @@
 pub mod Blocks
 pub mod CellIndex
 pub mod CellRepr
-pub mod ColumnStats
 pub mod Examples
 pub mod Image
 pub mod InsertRow
@@ -11,5 +10,4 @@ pub mod MergeCells
 pub mod Refusals
 pub mod Repartition
 pub mod RowPartition
-pub mod Standing
 pub mod Valid

@@ -1,33 +1,20 @@
 -- Which images a table may have. Source: this project's own.
-use Rattle.std.specs.Prelude.{ℕ, ◌≤◌, Bool, true, not, ◌&&◌, ◌==◌, List, ◌++◌, map, length, count_by, nat_le, nat_lt, Option, Some, None, IsTrue}
+use Rattle.std.specs.Prelude.{ℕ, ◌≤◌, Bool, true, not, ◌&&◌, ◌==◌, List, ◌++◌, map, length, nat_le, nat_lt, Option, Some, None, IsTrue}
 use Rattle.std.specs.List.{list_all, zip}
-use Rattle.std.specs.Str.{bytes_eq}
-use Rattle.blink_base.specs.declared.schema.Column.{Column}
 use Rattle.blink_base.specs.declared.schema.Schema.{Schema}
 use Rattle.blink_base.specs.Values.{Row, same_value}
-use Rattle.blink_base.specs.RowFits.{fits, is_entry, is_schema}
-use Rattle.blink_base.specs.Identifiers.{is_name}
-use Rattle.blink_lists.specs.Lists.{are_distinct, rises, joined}
+use Rattle.blink_base.specs.RowFits.{fits, is_schema}
+use Rattle.blink_lists.specs.Lists.{are_distinct, rises}
 use Rattle.blink_lists.specs.Rearrangement.{Rearranged}
-use Rattle.order_codes.specs.Dictionary.{Classes, are_classes, class_at}
-use Rattle.cell_layout.specs.Image.{TableImage, CellImage, rows_of, column_values, is_coded}
+use Rattle.order_codes.specs.Dictionary.{Classes, class_at}
+use Rattle.cell_layout.specs.Image.{TableImage, CellImage, rows_of, is_coded}
+use Rattle.column_classes.specs.ColumnClasses.{column_values, are_divided}
 use Rattle.cell_layout.specs.Layout.{cell_cmp, laid, grown}
-use Rattle.blink_lists.specs.declared.limits.TheConstants.{MOST_COLUMNS, MOST_DIVIDED, MOST_ROWS}
+use Rattle.blink_lists.specs.declared.limits.TheConstants.{MOST_ROWS}
 
 -- how many rows a cell, or rest, may have
 abbrev pub most_cell_rows : ℕ
 most_cell_rows = 4294967295
-
--- a column's classes hold good values of its kind alone
-abbrev pub are_column_classes : Column → Classes → Bool
-are_column_classes column classes = are_classes classes && list_all (is_entry column.kind) (joined classes)
-
--- one list of classes per column, and at most three columns with several classes
-abbrev pub are_divided : Schema → List Classes → Bool
-are_divided schema columns =
-    length columns == length schema.columns
-    && list_all (λ p. are_column_classes p.0 p.1) (zip schema.columns columns)
-    && nat_le (count_by (λ classes. nat_lt 1 (length classes)) columns) MOST_DIVIDED
 
 -- a number of rows that fits a cell, where it has any
 abbrev pub is_row_count : List (List ℕ) → Bool

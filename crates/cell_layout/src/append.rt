@@ -10,6 +10,7 @@ ghost use Rattle.cell_layout.specs.Valid.{is_valid};
 ghost use Rattle.blink_lists.specs.declared.limits.TheConstants.{MOST_ROWS};
 
 use crate::apart::{exceed, kept_keys_apart};
+use crate::laws::{rows_added_are_kept, standing_rows_keep_their_places};
 use crate::merge::add_placed;
 use crate::place::place_rows;
 use crate::{Image, LayoutError};
@@ -57,6 +58,8 @@ impl<M: Ledger> Image<M> {
             batch.as_slice(),
             decodes,
         )?;
+        rows_added_are_kept();
+        standing_rows_keep_their_places();
         let placed = place_rows(alloc, self.dicts.as_slice(), &[], batch.as_slice())?;
         add_placed(&mut self.cells, &mut self.rest, placed)?;
         self.rows += batch.len() as u64;

@@ -10,10 +10,11 @@ ghost use Rattle.cell_layout.specs.Valid.{is_valid, MayHold};
 ghost use Rattle.blink_lists.specs.declared.limits.TheConstants.{MOST_ROWS, MOST_COLUMNS};
 
 use crate::apart::{exceed, keys_apart};
-use crate::dicts::dicts_of;
+use crate::laws::rows_laid_out_anew_are_kept;
 use crate::place::{PlacedRows, place_rows};
 use crate::{Image, LayoutError};
 use blink_base::{List, Row, Schema};
+use column_classes::dictionaries;
 use std::alloc::{AllocError, Global};
 use word_pool::{Ledger, Steps};
 
@@ -31,6 +32,7 @@ impl<M: Ledger> Image<M> {
         ensures rows { IfOk result (λ image. Rearranged rows.now (rows_of image)) }
         ensures memory { IfErr result (λ why. why ≡ LayoutError.Memory) }
     {
+        rows_laid_out_anew_are_kept();
         Ok(Image::lay_out(alloc, schema, &[], rows.as_slice())?)
     }
 
@@ -61,6 +63,7 @@ impl<M: Ledger> Image<M> {
         }
         let held = self.all_rows(alloc, decodes)?;
         keys_apart(alloc, self.schema.key, held.as_slice(), batch.as_slice())?;
+        rows_laid_out_anew_are_kept();
         Ok(Image::lay_out(alloc, &self.schema, held.as_slice(), batch.as_slice())?)
     }
 
@@ -77,7 +80,7 @@ impl<M: Ledger> Image<M> {
         requires few { length held.now + length batch.now ≤ MOST_ROWS }
         ensures { IfOk result (λ image. image ≡ laid schema.now (held.now ++ batch.now)) }
     {
-        let dicts = dicts_of(alloc, held, batch, schema.columns.len())?;
+        let dicts = dictionaries(alloc, held, batch, schema.columns.len())?;
         let PlacedRows { cells, rest } = place_rows(alloc, dicts.as_slice(), held, batch)?;
         Ok(Image {
             schema: copy_of(alloc, schema)?,

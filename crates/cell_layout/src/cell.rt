@@ -25,7 +25,7 @@ pub struct Cell {
 
 impl Cell {
     // The code of a row in a column.
-    #[tactic(auto, using(crate::proofs::KeptRows::code_kept))]
+    #[tactic(auto, using(crate::proofs::CellReprLemmas::code_kept))]
     pub(crate) fn code(&self, row: u64, column: usize) -> u32
         requires full { All (λ codes. length codes.0 ≡ self.now.rows) self.now.codes }
         requires column { column < length self.now.codes }
@@ -94,7 +94,7 @@ fn pages_of(rows: u64) -> u64
 }
 
 // How many blocks a page of each bank takes.
-#[tactic(auto, using(crate::proofs::BlockCounts::page_few))]
+#[tactic(auto, using(crate::proofs::BlockLemmas::page_few))]
 fn page_blocks(plan: &BankPlan) -> u64
     requires { length plan.now ≤ MOST_COLUMNS }
     ensures number { result ≡ sum_by page_blocks plan.now }

@@ -7,6 +7,7 @@ ghost use Rattle.blink_base.specs.RowFits.{is_schema};
 use crate::Cell;
 use blink_base::{Column, List, Roomy, Row, Schema};
 use order_codes::Dict;
+use order_codes::laws::places_decode_to_their_values;
 use std::alloc::{AllocError, Global};
 use std::marker::Model;
 use word_pool::Ledger;
@@ -46,6 +47,7 @@ impl<M: Ledger> Image<M> {
         ensures empty { IfOk result (λ image. image ≡ empty_image schema) }
         ensures valid { IfOk result (λ image. IsTrue (is_valid image)) }
     {
+        places_decode_to_their_values();
         let dicts = without_classes(alloc, schema.columns.as_slice())?;
         Ok(Image {
             schema,

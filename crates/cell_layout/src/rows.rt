@@ -1,8 +1,7 @@
 // The rows of an image.
 ghost use Rattle.std.specs.Prelude.{◌≡◌, ◌<◌, ◌≤◌, ◌+◌, ◌++◌, IfOk, OnOk, Some, [], length, slice_get, slice_index_or as get_or};
 ghost use Rattle.cell_layout.specs.Image.{rows_of, row_count, cell_at, decoded_row};
-ghost use Rattle.cell_layout.specs.CellRepr.{IsCellRepr, row_of_codes};
-ghost use Rattle.cell_layout.specs.Standing.{rows_in};
+ghost use Rattle.cell_layout.specs.CellRepr.{IsCellRepr, row_of_codes, rows_in};
 
 use crate::{Cell, Image};
 use blink_base::{List, Row};

@@ -6,8 +6,9 @@ use Rattle.blink_lists.specs.Widths.{width_for}
 use Rattle.blink_lists.specs.declared.limits.TheConstants.{MOST_WIDTH}
 use Rattle.freq_partition.specs.Division.{cost_of, never_rises}
 use Rattle.freq_partition.specs.declared.candidate.TheConstants.{CLASS_COST}
-use Rattle.freq_partition.proofs.PrefixSumLemmas.{sum-cons, sum-take-add, sum-take-later, never_rises-drop}
-use Rattle.freq_partition.proofs.PowerLemmas.{width_for-holds, width_for-positive, width_for-most}
+use Rattle.freq_partition.proofs.PrefixSumLemmas.{sum-take-later, never_rises-drop}
+use Rattle.blink_lists.proofs.SumLemmas.{sum-cons, sum-take-add}
+use Rattle.blink_lists.proofs.WidthLemmas.{width_for-holds, width_for-positive, width_for-most}
 
 -- what classes of these widths cost, each with as many of the counts as it holds
 abbrev pub fill : List ℕ → List ℕ → ℕ

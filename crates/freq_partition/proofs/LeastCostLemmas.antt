@@ -4,7 +4,8 @@ use Rattle.blink_lists.specs.Widths.{width_for}
 use Rattle.blink_lists.specs.declared.limits.TheConstants.{MOST_WIDTH}
 use Rattle.freq_partition.specs.Division.{IsLeastCost, best_division, cost_of, never_rises, candidates, one_class, divided_by, sizes_of, fronts}
 use Rattle.freq_partition.proofs.FillLemmas.{ordered, is_ordered, fill-ordered}
-use Rattle.freq_partition.proofs.BestLemmas.{best-cost, Among-map}
+use Rattle.freq_partition.proofs.BestLemmas.{best-cost}
+use Rattle.blink_lists.proofs.MemberLemmas.{Among-map}
 use Rattle.freq_partition.proofs.TighterFillLemmas.{HasFront, HasTighter, tighten}
 
 -- the next step from sizes: a candidate, or other sizes of less width

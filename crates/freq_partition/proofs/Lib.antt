@@ -3,7 +3,6 @@ pub mod ColumnChoiceLemmas
 pub mod FillLemmas
 pub mod LeastCostLemmas
 pub mod PaddingLemmas
-pub mod PowerLemmas
 pub mod PrefixSumLemmas
 pub mod SearchLemmas
 pub mod TighterFillLemmas

@@ -9,7 +9,7 @@ use Rattle.blink_lists.specs.declared.limits.TheConstants.{MOST_WIDTH}
 use Rattle.freq_partition.specs.Candidate.{with_class}
 use Rattle.freq_partition.specs.Division.{Division, better, one_class, no_classes, candidates, best_division, divided_by, sizes_of, fronts}
 use Rattle.freq_partition.specs.Search.{behind, best_among}
-use Rattle.freq_partition.proofs.PowerLemmas.{width_for-pow}
+use Rattle.blink_lists.proofs.WidthLemmas.{width_for-pow}
 
 -- whether a class of this width may stand in front
 abbrev pub is_front_of : ℕ → ℕ → Bool

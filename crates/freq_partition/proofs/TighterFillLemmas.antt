@@ -6,10 +6,11 @@ use Rattle.blink_lists.specs.Widths.{width_for}
 use Rattle.blink_lists.specs.declared.limits.TheConstants.{MOST_WIDTH}
 use Rattle.freq_partition.specs.Division.{cost_of, sizes_of, fronts}
 use Rattle.freq_partition.specs.declared.candidate.TheConstants.{CLASS_COST}
-use Rattle.freq_partition.proofs.PrefixSumLemmas.{sum-cons}
-use Rattle.freq_partition.proofs.PowerLemmas.{width_for-le, width_for-pow}
+use Rattle.blink_lists.proofs.SumLemmas.{sum-cons}
+use Rattle.blink_lists.proofs.WidthLemmas.{width_for-le, width_for-pow}
 use Rattle.freq_partition.proofs.FillLemmas.{fill, room, RisesFrom, fill-drop}
-use Rattle.freq_partition.proofs.BestLemmas.{Among, no_front, front-cons}
+use Rattle.freq_partition.proofs.BestLemmas.{no_front, front-cons}
+use Rattle.blink_lists.proofs.MemberLemmas.{Among}
 
 -- a candidate that costs no more
 pub record HasFront (more least cost : ℕ) (counts : List ℕ) : Type 0 where

@@ -17,7 +17,7 @@ use std::alloc::{AllocError, Global};
 /// [`MOST_ROWS`]. The division is the candidate of least cost, of equal cost the one with fewer classes, and then the one
 /// with the lexicographically least widths. No list of one to four sizes costs less. Source: after Raman et al., ICDE
 /// 2008; the candidates and their cost are this project's own.
-#[tactic(auto, using(crate::proofs::LeastCostLemmas::costs_least, crate::proofs::PrefixSumLemmas::length_le_sum))]
+#[tactic(auto, using(crate::proofs::LeastCostLemmas::costs_least, blink_lists::proofs::SumLemmas::length_le_sum))]
 pub fn cut(alloc: Global, counts: &[u64]) -> Result<Cut, AllocError>
     requires positive { All (λ count. 1 ≤ count) counts.now }
     requires ranked { IsTrue (never_rises counts.now) }

@@ -58,7 +58,7 @@ impl<'a> PrefixSums<'a> {
     }
 
     // The rows of the values before a rank: the last sum up to it, and what stands between.
-    #[tactic(auto, using(crate::proofs::PrefixSumLemmas::sum_between))]
+    #[tactic(auto, using(blink_lists::proofs::SumLemmas::sum_between))]
     fn rows_before(&self, rank: usize) -> u64
         requires { rank ≤ length self.now.counts.now }
         ensures { result ≡ sum (take rank self.now.counts.now) }
@@ -80,7 +80,7 @@ impl<'a> PrefixSums<'a> {
     }
 
     // The rows of the values of so many ranks, from a rank on.
-    #[tactic(auto, using(crate::proofs::PrefixSumLemmas::sum_between))]
+    #[tactic(auto, using(blink_lists::proofs::SumLemmas::sum_between))]
     pub(crate) fn rows_between(&self, from: usize, to: usize) -> u64
         requires rises { from ≤ to }
         requires within { to ≤ length self.now.counts.now }

@@ -10,44 +10,8 @@ use Rattle.blink_base.specs.Values.{value_cmp, same_value}
 use Rattle.order_codes.proofs.ValueRankLemmas.{held, distinct_rising}
 use Rattle.order_codes.specs.Dictionary.{is_class}
 use Rattle.blink_lists.specs.declared.limits.TheConstants.{MOST_ROWS}
-
--- some element passes in some list
-pub any_joined : {X : Type 0} (p : X → Bool) (lists : List (List X)) → list_any p (joined lists) ≡ list_any (list_any p) lists
-any_joined p [] = refl
-any_joined p (xs ∷ rest) = list_any-append p xs (joined rest) ∙ ap (λ b. list_any p xs || b) (any_joined p rest)
-
--- whether an element of the first is in the second
-abbrev pub meet : {X : Type 0} → (X → X → Bool) → List X → List X → Bool
-meet eq xs ys = list_any (λ x. list_any (eq x) ys) xs
-
-shuffled : (a b c d m : Bool) → (not (a || b) && (c && (d && not m))) ≡ ((not a && c) && (d && not (b || m)))
-shuffled true b c d m = refl
-shuffled false true false d m = refl
-shuffled false true true false m = refl
-shuffled false true true true m = refl
-shuffled false false c d m = refl
-
-kept : (b : Bool) → b ≡ (b && true)
-kept true = refl
-kept false = refl
-
--- two lists together have distinct elements where each has, and they don't meet
-pub distinct-append : {X : Type 0} (eq : X → X → Bool) (xs ys : List X) → are_distinct eq (xs ++ ys) ≡ (are_distinct eq xs && (are_distinct eq ys && not (meet eq xs ys)))
-distinct-append eq [] ys = kept (are_distinct eq ys)
-distinct-append eq (x ∷ xs) ys =
-    rw (list_any-append (eq x) xs ys, distinct-append eq xs ys) (shuffled (list_any (eq x) xs) (list_any (eq x) ys) (are_distinct eq xs) (are_distinct eq ys) (meet eq xs ys))
-
--- one more list in front
-pub distinct_met : {X : Type 0} (eq : X → X → Bool) (xs ys : List X) → meet eq xs ys ≡ true → are_distinct eq (xs ++ ys) ≡ false
-distinct_met eq xs ys met = rw (distinct-append eq xs ys, met) (none (are_distinct eq xs) (are_distinct eq ys))
-  where
-    none : (b c : Bool) → (b && (c && false)) ≡ false
-    none true true = refl
-    none true false = refl
-    none false c = refl
-
-pub distinct_more : {X : Type 0} (eq : X → X → Bool) (xs ys : List X) → are_distinct eq xs ≡ true → meet eq xs ys ≡ false → are_distinct eq (xs ++ ys) ≡ are_distinct eq ys
-distinct_more eq xs ys each met = rw (distinct-append eq xs ys, met, each) (sym (kept (are_distinct eq ys)))
+use Rattle.blink_lists.proofs.DistinctLemmas.{meet, distinct-append, distinct_met, distinct_more}
+use Rattle.blink_lists.proofs.AnyLemmas.{any_joined}
 
 -- no value is in two of the lists
 pub apart_at : (lists : List (List Value)) (j k : ℕ) (v : Value) → are_distinct same_value (joined lists) ≡ true → j < k → k < length lists
@@ -80,7 +44,3 @@ apart_step (ys ∷ rest) xs some is all =
       λ met. sym (distinct_more same_value ys (joined rest) each (rw is at met)),
       parts.1,
     )
-
--- all behind the first, as a slice gives it
-pub rest_all : {X : Type 0} (xs : List X) → take (length xs - 1) (drop 1 xs) ≡ drop 1 xs
-rest_all xs = take_all (length xs - 1) (drop 1 xs) (simp length-drop (omega arith))

@@ -14,7 +14,8 @@ use Rattle.order_codes.specs.declared.place.CodePlace.{CodePlace}
 use Rattle.order_codes.specs.Dictionary.{Classes, is_class, are_classes, below, class_at, class_of, place_of_value, decoded}
 use Rattle.blink_lists.specs.declared.limits.TheConstants.{MOST_CLASSES}
 use Rattle.order_codes.specs.Codes.{KeepsOrder, DecodesFound, FindsDecoded}
-use Rattle.order_codes.proofs.ValueRankLemmas.{all_at, held, among, code_at, order_at}
+use Rattle.order_codes.proofs.ValueRankLemmas.{held, among, code_at, order_at}
+use Rattle.blink_lists.proofs.AllLemmas.{all_at}
 use Rattle.order_codes.proofs.ClassListLemmas.{is_class_rises, apart_at}
 
 -- the code of a value of a class, and its place there

@@ -17,27 +17,12 @@ use Rattle.blink_base.specs.declared.value.Value.{Value}
 use Rattle.blink_base.specs.Values.{value_cmp, same_value}
 use Rattle.blink_base.specs.ValueOrder.{value_total, value_same}
 use Rattle.order_codes.specs.Dictionary.{below}
-
--- orderings and their tests
-pub less_is : (o : Ordering) → is_lt o ≡ true → o ≡ Less
-less_is Less e = refl
-less_is Equal e = cc
-less_is Greater e = cc
-
-pub equal_is : (o : Ordering) → is_eq o ≡ true → o ≡ Equal
-equal_is Less e = cc
-equal_is Equal e = refl
-equal_is Greater e = cc
+use Rattle.blink_lists.proofs.AllLemmas.{all_at}
+use Rattle.blink_lists.proofs.OrderLemmas.{less_is, equal_is}
 
 -- of two values the smaller is below, and the other isn't
 pub turned : (x y : Value) → value_cmp x y ≡ Less → value_cmp y x ≡ Greater
 turned x y less = value_total.antisymm y x ∙ ap ordering_reverse less
-
--- an element of a list that passes throughout
-pub all_at : {X : Type 0} (p : X → Bool) (xs : List X) (i : ℕ) (d : X) → list_all p xs ≡ true → i < length xs → p (get_or xs i d) ≡ true
-all_at p [] i d all lt = absurd (omega arith)
-all_at p (x ∷ xs) zero d all lt = (and_parts (p x) (list_all p xs) all).0
-all_at p (x ∷ xs) (suc i) d all lt = all_at p xs i d (and_parts (p x) (list_all p xs) all).1 (omega arith)
 
 above : Value → List Value → Bool
 above x ys = list_all (λ y. is_lt (value_cmp x y)) ys

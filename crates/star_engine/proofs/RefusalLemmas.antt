@@ -12,15 +12,15 @@ use Rattle.blink_lists.specs.Rearrangement.{Rearranged}
 use Rattle.blink_lists.proofs.RearrangementLemmas.{length-rearranged, map-rearranged, behind}
 use Rattle.cell_layout.specs.declared.fault.LayoutError.{LayoutError}
 use Rattle.cell_layout.specs.declared.fault.LayoutError.TheVariants.{DuplicateKey, Rows, Memory}
-use Rattle.cell_layout.specs.Image.{TableImage, rows_of, row_count, column_values}
+use Rattle.cell_layout.specs.Image.{TableImage, rows_of, row_count}
+use Rattle.column_classes.specs.ColumnClasses.{column_values}
 use Rattle.cell_layout.specs.Refusals.{repeated_key, duplicate_in, duplicate_of, refusal_of}
-use Rattle.cell_layout.proofs.Passed.{any-rearranged}
+use Rattle.blink_lists.proofs.AnyLemmas.{any-rearranged}
 use Rattle.star_engine.specs.declared.fault.EngineError.{EngineError}
 use Rattle.star_engine.specs.declared.fault.EngineError.TheVariants as engine
 use Rattle.star_engine.specs.Causes.{IsCause}
 use Rattle.star_engine.specs.State.{AcceptedTable}
-use Rattle.star_engine.specs.Changes.{add_refusals, if_many, if_repeated, unless}
-use Rattle.star_engine.specs.Changes.{duplicate_of as duplicates_of}
+use Rattle.star_engine.specs.Changes.{add_refusals, if_many, if_repeated, unless, duplicate_of as duplicates_of}
 use Rattle.star_engine.specs.Faults.{layout_error}
 
 -- a refused layout as a refusal

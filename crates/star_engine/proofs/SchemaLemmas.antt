@@ -13,7 +13,7 @@ use Rattle.blink_lists.specs.declared.limits.TheConstants.{MOST_COLUMNS}
 use Rattle.star_sql.specs.declared.ast.ColumnDef.{ColumnDef}
 use Rattle.star_sql.specs.WellFormed.{some_and_all, is_definition}
 use Rattle.star_engine.specs.Changes.{are_bad_columns, schema_of}
-use Rattle.star_engine.proofs.TableListLemmas.{place_is}
+use Rattle.blink_lists.proofs.FindLemmas.{place_is}
 
 some : {X : Type 0} (p : X → Bool) (xs : List X) → some_and_all p xs ≡ true → (1 ≤ length xs) × (list_all p xs ≡ true)
 some p [] e = cc

@@ -31,7 +31,8 @@ use Rattle.blink_base.specs.declared.limits.TheConstants.{MOST_TABLES}
 use Rattle.star_engine.specs.Faults.{layout_error}
 use Rattle.star_engine.specs.EngineRepr.{table_of, IsEngineOf, HasTables, IsKeyless, IsMade, IsMadeWith}
 use Rattle.star_engine.specs.Soundness.{IsSoundTable}
-use Rattle.star_engine.proofs.TableListLemmas.{place-map, place_is, no_place, finds, finds_none, Finding, found_at, names}
+use Rattle.star_engine.proofs.TableListLemmas.{Finding, found_at, names}
+use Rattle.blink_lists.proofs.FindLemmas.{place-map, place_is, no_place, finds, finds_none}
 use Rattle.star_engine.proofs.RefusalLemmas.{as_refusal, first_told, cause_told, few_rows, none_refused, only_memory}
 use Rattle.star_engine.proofs.SoundnessLemmas.{sound-with, sound-without, sound-and}
 

@@ -14,9 +14,9 @@ use Rattle.cell_layout.specs.declared.cell.Cell.{Cell}
 use Rattle.cell_layout.specs.Blocks.{blocks}
 use Rattle.cell_layout.specs.Image.{TableImage}
 use Rattle.cell_layout.specs.CellRepr.{image_of, cell_image, IsImageRepr, IsCellRepr}
-use Rattle.cell_layout.proofs.Growing.{row_count_kept}
-use Rattle.cell_layout.proofs.KeptRows.{length-rows}
-use Rattle.cell_layout.proofs.Numbers.{numbered-at, length-numbered}
+use Rattle.cell_layout.proofs.GrownImageLemmas.{row_count_kept}
+use Rattle.cell_layout.proofs.CellReprLemmas.{length-rows}
+use Rattle.blink_lists.proofs.NumberLemmas.{numbered-at, length-numbered}
 use Rattle.report_text.specs.declared.lines.ColumnLine.{ColumnLine}
 use Rattle.report_text.specs.declared.lines.LayoutLines.{LayoutLines}
 use Rattle.star_engine.specs.TableLayout.{column_line, column_lines, cell_line, layout_of}

@@ -9,7 +9,8 @@ use Rattle.blink_base.specs.declared.refusal.Refusal.TheVariants as refusal
 use Rattle.blink_base.specs.Values.{Row}
 use Rattle.blink_lists.specs.Lists.{are_distinct, first_of}
 use Rattle.star_sql.specs.declared.ast.ColumnDef.{ColumnDef}
-use Rattle.cell_layout.specs.Image.{TableImage, rows_of, column_values}
+use Rattle.cell_layout.specs.Image.{TableImage, rows_of}
+use Rattle.column_classes.specs.ColumnClasses.{column_values}
 use Rattle.cell_layout.specs.Layout.{laid, grown, empty_image}
 use Rattle.cell_layout.specs.Refusals.{repeated_key}
 use Rattle.blink_lists.specs.declared.limits.TheConstants.{MOST_COLUMNS}

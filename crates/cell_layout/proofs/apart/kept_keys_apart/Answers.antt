@@ -1,9 +1,9 @@
 use Rattle.std.proofs.Common.{[], ◌++◌, sym, subst}
 use Rattle.std.specs.List.{flat_map}
-use Rattle.cell_layout.specs.Image.{column_values}
+use Rattle.column_classes.specs.ColumnClasses.{column_values}
 use Rattle.cell_layout.specs.Refusals.{duplicate_of, repeated_key, IsRefusal}
-use Rattle.cell_layout.specs.Standing.{rows_in}
-use Rattle.cell_layout.proofs.Repeated.{keys-append}
+use Rattle.cell_layout.specs.CellRepr.{rows_in}
+use Rattle.cell_layout.proofs.RepeatedKeyLemmas.{keys-append}
 use Rattle.cell_layout.proofs.apart.kept_keys_apart.Goals as goal
 
 pub returns-clause-refused : goal.returns-clause-refused

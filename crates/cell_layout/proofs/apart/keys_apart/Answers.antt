@@ -1,5 +1,5 @@
 use Rattle.std.proofs.Common.{[]}
-use Rattle.cell_layout.specs.Image.{column_values}
+use Rattle.column_classes.specs.ColumnClasses.{column_values}
 use Rattle.cell_layout.proofs.apart.keys_apart.Goals as goal
 
 pub returns : goal.returns

@@ -1,8 +1,8 @@
 use Rattle.std.proofs.Common.{◌<◌, ◌++◌, ◌∙◌, sym, ap, take, length, arith}
 use Rattle.blink_histogram.specs.Ranks.{counted}
-use Rattle.cell_layout.specs.Image.{column_values}
+use Rattle.column_classes.specs.ColumnClasses.{column_values}
 use Rattle.cell_layout.specs.Refusals.{duplicate_of}
-use Rattle.cell_layout.proofs.Repeated.{key_at, keys_more, once_here, twice_here, none_all, length-keys}
+use Rattle.cell_layout.proofs.RepeatedKeyLemmas.{key_at, keys_more, once_here, twice_here, none_all, length-keys}
 use Rattle.cell_layout.proofs.apart.new_keys.Goals as goal
 
 pub returns-then-count-gt1 : goal.returns-then-count-gt1

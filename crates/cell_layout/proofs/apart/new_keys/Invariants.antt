@@ -2,8 +2,8 @@ use Rattle.std.proofs.Common.{◌≡◌, ◌+◌, ◌++◌, List, take}
 use Rattle.blink_base.specs.declared.value.Value.{Value}
 use Rattle.blink_histogram.specs.Ranks.{counted}
 use Rattle.blink_histogram.specs.InternerRepr.{numbered_values}
-use Rattle.cell_layout.specs.Image.{column_values}
-use Rattle.cell_layout.proofs.Repeated.{NoneOf}
+use Rattle.column_classes.specs.ColumnClasses.{column_values}
+use Rattle.cell_layout.proofs.RepeatedKeyLemmas.{NoneOf}
 use Rattle.cell_layout.proofs.apart.new_keys.Given as goal
 
 abbrev pub invariant-loop-row : goal.invariant-loop-row

@@ -1,10 +1,10 @@
 use Rattle.std.proofs.Common.{◌++◌, ◌<◌, ◌∙◌, sym, ap, take, length, get_or, arith}
 use Rattle.std.proofs.lemmas.List.{take_all}
 use Rattle.blink_histogram.specs.Ranks.{counted}
-use Rattle.cell_layout.specs.Image.{column_values}
-use Rattle.cell_layout.specs.Standing.{rows_in}
-use Rattle.cell_layout.proofs.KeptRows.{code_below, length-in}
-use Rattle.cell_layout.proofs.Repeated.{cell_key, keys_more, length-keys}
+use Rattle.column_classes.specs.ColumnClasses.{column_values}
+use Rattle.cell_layout.specs.CellRepr.{rows_in}
+use Rattle.cell_layout.proofs.CellReprLemmas.{code_below, length-in}
+use Rattle.cell_layout.proofs.RepeatedKeyLemmas.{cell_key, keys_more, length-keys}
 use Rattle.cell_layout.proofs.apart.number_cell.Goals as goal
 
 pub decode-requires : goal.decode-requires

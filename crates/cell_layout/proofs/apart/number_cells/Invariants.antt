@@ -3,9 +3,9 @@ use Rattle.std.specs.List.{flat_map}
 use Rattle.blink_base.specs.declared.value.Value.{Value}
 use Rattle.blink_histogram.specs.Ranks.{counted}
 use Rattle.blink_histogram.specs.InternerRepr.{numbered_values}
-use Rattle.cell_layout.specs.Image.{column_values}
+use Rattle.column_classes.specs.ColumnClasses.{column_values}
 use Rattle.cell_layout.specs.InsertRowRepr.{rows_in_all}
-use Rattle.cell_layout.specs.Standing.{rows_in}
+use Rattle.cell_layout.specs.CellRepr.{rows_in}
 use Rattle.cell_layout.proofs.apart.number_cells.Given as goal
 
 abbrev pub invariant-loop-cell : goal.invariant-loop-cell

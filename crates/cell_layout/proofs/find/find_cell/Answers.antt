@@ -2,7 +2,7 @@ use Rattle.std.proofs.Common.{◌≡◌, rules}
 use Rattle.std.proofs.lemmas.Fn.{always_returns_same}
 use Rattle.cell_layout.specs.declared.cell.Cell.{Cell}
 use Rattle.cell_layout.specs.Layout.{cell_cmp}
-use Rattle.cell_layout.proofs.Finding.{cell_place}
+use Rattle.cell_layout.proofs.CellIndexLemmas.{cell_place}
 use Rattle.cell_layout.proofs.find.find_cell.Goals as goal
 
 pub returns : goal.returns

@@ -1,6 +1,6 @@
 use Rattle.std.proofs.Common.{◌+◌, ◌∷◌, [], length, get_or, ap, ◌∙◌}
 use Rattle.std.proofs.lemmas.List.{length-append}
-use Rattle.cell_layout.proofs.Widening.{widths_more, narrow_more, widths_all}
+use Rattle.cell_layout.proofs.CellWidthLemmas.{widths_more, narrow_more, widths_all}
 use Rattle.cell_layout.proofs.first.widths_of.Goals as goal
 
 pub loop-column-preserved : goal.loop-column-preserved

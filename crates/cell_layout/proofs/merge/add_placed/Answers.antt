@@ -2,7 +2,7 @@ use Rattle.std.proofs.Common.{◌+◌, ◌≤◌, [], ◌++◌, subst, ap, sym, 
 use Rattle.blink_lists.specs.declared.limits.TheConstants.{MOST_ROWS}
 use Rattle.cell_layout.specs.InsertRowRepr.{rows_in_all}
 use Rattle.cell_layout.specs.MergeCells.{AreAlike, AreMerged}
-use Rattle.cell_layout.proofs.Added.{added_placed, both_alike, both_rise, both_few}
+use Rattle.cell_layout.proofs.MergePartitionLemmas.{added_placed, both_alike, both_rise, both_few}
 use Rattle.cell_layout.proofs.merge.add_placed.Goals as goal
 
 pub merge-requires-clause-alike : goal.merge-requires-clause-alike

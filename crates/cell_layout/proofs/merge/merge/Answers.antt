@@ -1,7 +1,7 @@
 use Rattle.std.proofs.Common.{◌≡◌, ◌∷◌, length, ap, subst, arith}
 use Rattle.std.specs.Vec.Iter.{into_iter_items}
 use Rattle.cell_layout.specs.MergeCells.{AreMerged}
-use Rattle.cell_layout.proofs.Merged.{merged_more, first_room}
+use Rattle.cell_layout.proofs.MergeCellsLemmas.{merged_more, first_room}
 use Rattle.cell_layout.proofs.merge.merge.Goals as goal
 
 pub merge_cell-requires-clause-room : goal.merge_cell-requires-clause-room

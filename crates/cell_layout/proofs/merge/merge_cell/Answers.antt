@@ -1,4 +1,4 @@
-use Rattle.cell_layout.proofs.Merged.{room_here, merged_found, merged_missing, found_in, missing_in}
+use Rattle.cell_layout.proofs.MergeCellsLemmas.{room_here, merged_found, merged_missing, found_in, missing_in}
 use Rattle.cell_layout.proofs.merge.merge_cell.Goals as goal
 
 pub absorb_at-requires-clause-room : goal.absorb_at-requires-clause-room

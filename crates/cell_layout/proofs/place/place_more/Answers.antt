@@ -1,7 +1,7 @@
 use Rattle.std.proofs.Common.{◌+◌, ◌++◌, take, subst, sym}
 use Rattle.cell_layout.specs.declared.place.PlacedRows.{PlacedRows}
 use Rattle.cell_layout.specs.RowPartition.{ArePlaced}
-use Rattle.cell_layout.proofs.PlacedRows.{coded_next, rest_next}
+use Rattle.cell_layout.proofs.RowPartitionLemmas.{coded_next, rest_next}
 use Rattle.cell_layout.proofs.place.place_more.Goals as goal
 use Rattle.cell_layout.proofs.place.place_more.Goals.{then-branch+in_ok-put_row, else-branch+in_ok-copy+in_ok-push}
 

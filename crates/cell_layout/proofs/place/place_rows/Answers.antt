@@ -1,6 +1,6 @@
 use Rattle.std.proofs.Common.{[]}
 use Rattle.cell_layout.specs.RowPartition.{ArePlaced}
-use Rattle.cell_layout.proofs.PlacedRows.{none_placed}
+use Rattle.cell_layout.proofs.RowPartitionLemmas.{none_placed}
 use Rattle.cell_layout.proofs.place.place_rows.Goals as goal
 
 pub returns : goal.returns

@@ -1,4 +1,4 @@
-use Rattle.cell_layout.proofs.PlacedRows.{found_placed, missing_placed}
+use Rattle.cell_layout.proofs.RowPartitionLemmas.{found_placed, missing_placed}
 use Rattle.cell_layout.proofs.place.put_row.Goals as goal
 
 pub returns-in-Ok : goal.returns-in-Ok

@@ -1,5 +1,5 @@
 use Rattle.std.proofs.Common.{refl}
-use Rattle.cell_layout.proofs.Roomier.{same_but_room}
+use Rattle.cell_layout.proofs.CellRoomLemmas.{same_but_room}
 use Rattle.cell_layout.proofs.room.make_room.Goals as goal
 
 pub returns-in_err-reserve_cells-clause-same : goal.returns-in_err-reserve_cells-clause-same

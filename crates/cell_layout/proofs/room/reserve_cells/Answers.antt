@@ -1,5 +1,5 @@
 use Rattle.std.proofs.Common.{arith, refl}
-use Rattle.cell_layout.proofs.Roomier.{order_same, cells_twice, reserved_more, reserved_all}
+use Rattle.cell_layout.proofs.CellRoomLemmas.{order_same, cells_twice, reserved_more, reserved_all}
 use Rattle.cell_layout.proofs.room.reserve_cells.Goals as goal
 
 pub reserve_for-requires : goal.reserve_for-requires

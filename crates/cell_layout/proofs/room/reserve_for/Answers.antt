@@ -1,6 +1,6 @@
 use Rattle.std.proofs.Common.{subst}
 use Rattle.cell_layout.specs.CellIndex.{IsMissing}
-use Rattle.cell_layout.proofs.Roomier.{found_reserved, missing_room}
+use Rattle.cell_layout.proofs.CellRoomLemmas.{found_reserved, missing_room}
 use Rattle.cell_layout.proofs.room.reserve_for.Goals as goal
 
 pub returns-in-Ok-clause-room : goal.returns-in-Ok-clause-room

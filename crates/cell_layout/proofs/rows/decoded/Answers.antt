@@ -1,5 +1,5 @@
 use Rattle.std.proofs.Common.{◌+◌, ap, ◌∙◌, get_or, arith}
-use Rattle.cell_layout.proofs.KeptRows.{code_below, decoded_more, decoded_all}
+use Rattle.cell_layout.proofs.CellReprLemmas.{code_below, decoded_more, decoded_all}
 use Rattle.cell_layout.proofs.rows.decoded.Goals as goal
 
 pub decode-value-requires : goal.decode-value-requires

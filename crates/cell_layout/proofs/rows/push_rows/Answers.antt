@@ -1,4 +1,4 @@
-use Rattle.cell_layout.proofs.Standing.{row_pushed, rows_pushed}
+use Rattle.cell_layout.proofs.CellRowLemmas.{row_pushed, rows_pushed}
 use Rattle.cell_layout.proofs.rows.push_rows.Goals as goal
 
 pub loop-row-preserved : goal.loop-row-preserved

@@ -1,5 +1,5 @@
 use Rattle.std.proofs.Common.{◌≡◌, ◌++◌, take}
-use Rattle.cell_layout.specs.Standing.{rows_in}
+use Rattle.cell_layout.specs.CellRepr.{rows_in}
 use Rattle.cell_layout.proofs.rows.push_rows.Given as goal
 
 abbrev pub invariant-loop-row : goal.invariant-loop-row

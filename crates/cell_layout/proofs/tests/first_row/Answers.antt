@@ -1,6 +1,6 @@
 use Rattle.std.proofs.Common.{arith}
 use Rattle.cell_layout.specs.Image.{row_count}
-use Rattle.cell_layout.proofs.Growing.{row_count_kept}
+use Rattle.cell_layout.proofs.GrownImageLemmas.{row_count_kept}
 use Rattle.cell_layout.proofs.tests.first_row.Goals as goal
 
 pub row-requires : goal.row-requires

@@ -1,6 +1,6 @@
 use Rattle.std.proofs.Common.{◌∙◌, ap, sym, slice_set}
 use Rattle.std.proofs.lemmas.Result.{on_err_weaker}
-use Rattle.star_engine.proofs.TableListLemmas.{got, put_back}
+use Rattle.blink_lists.proofs.SliceLemmas.{got, put_back}
 use Rattle.star_engine.proofs.table.add_at.Goals as goal
 
 pub returns-clause-kept : goal.returns-clause-kept

@@ -1,7 +1,7 @@
 use Rattle.std.proofs.Common.{Ok, None, Some, ap, sym, ◌∙◌}
 use Rattle.std.specs.Option.{is_some}
 use Rattle.std.specs.List.{list_all}
-use Rattle.cell_layout.proofs.Reading.{classes_in, codes_in, place_here, classes_more, codes_more, some_more, none_here, taken_all, within_more, within_all}
+use Rattle.cell_layout.proofs.RowCodeLemmas.{classes_in, codes_in, place_here, classes_more, codes_more, some_more, none_here, taken_all, within_more, within_all}
 use Rattle.cell_layout.proofs.codes.RowCodes.read.Goals as goal
 
 pub returns-in-None-clause-told : goal.returns-in-None-clause-told

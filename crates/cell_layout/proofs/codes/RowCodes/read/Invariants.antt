@@ -2,7 +2,7 @@ use Rattle.std.proofs.Common.{◌≡◌, true, take, is_some}
 use Rattle.std.specs.List.{list_all}
 use Rattle.cell_layout.specs.Image.{places_of}
 use Rattle.cell_layout.specs.CellIndex.{AreWithin}
-use Rattle.cell_layout.proofs.Reading.{classes_in, codes_in}
+use Rattle.cell_layout.proofs.RowCodeLemmas.{classes_in, codes_in}
 use Rattle.cell_layout.proofs.codes.RowCodes.read.Given as goal
 
 abbrev pub invariant-loop-column : goal.invariant-loop-column

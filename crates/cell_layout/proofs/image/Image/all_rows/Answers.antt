@@ -1,8 +1,8 @@
 use Rattle.std.proofs.Common.{◌++◌, sym, ap, ◌∙◌}
 use Rattle.std.specs.List.{flat_map}
 use Rattle.std.proofs.lemmas.List.{take_all}
-use Rattle.cell_layout.specs.Standing.{rows_in}
-use Rattle.cell_layout.proofs.KeptRows.{rows_seen}
+use Rattle.cell_layout.specs.CellRepr.{rows_in}
+use Rattle.cell_layout.proofs.CellReprLemmas.{rows_seen}
 use Rattle.cell_layout.proofs.image.Image.all_rows.Goals as goal
 
 pub returns : goal.returns

@@ -1,6 +1,6 @@
 use Rattle.std.proofs.Common.{◌≡◌, take}
 use Rattle.std.specs.List.{flat_map}
-use Rattle.cell_layout.specs.Standing.{rows_in}
+use Rattle.cell_layout.specs.CellRepr.{rows_in}
 use Rattle.cell_layout.proofs.image.Image.all_rows.Given as goal
 
 abbrev pub invariant-loop-cell : goal.invariant-loop-cell

@@ -2,8 +2,9 @@ use Rattle.std.proofs.Common.{sum_by, arith, ap, sym, ◌∙◌}
 use Rattle.std.proofs.lemmas.List.{take_all}
 use Rattle.cell_layout.specs.Blocks.{blocks}
 use Rattle.cell_layout.specs.CellRepr.{IsCellRepr}
-use Rattle.cell_layout.proofs.KeptRows.{item_of, rows_within}
-use Rattle.cell_layout.proofs.BlockCounts.{plan_few, blocks_kept, blocks_in}
+use Rattle.cell_layout.proofs.CellReprLemmas.{rows_within}
+use Rattle.blink_lists.proofs.SliceLemmas.{item_of}
+use Rattle.cell_layout.proofs.BlockLemmas.{plan_few, blocks_kept, blocks_in}
 use Rattle.cell_layout.proofs.image.Image.blocks.Goals as goal
 
 pub blocks-blocks-requires-clause-banks : goal.blocks-blocks-requires-clause-banks

@@ -1,6 +1,6 @@
 use Rattle.std.proofs.Common.{◌<◌, [], get_or, ap, sym, ◌∙◌}
 use Rattle.cell_layout.specs.Image.{CellImage}
-use Rattle.cell_layout.proofs.KeptRows.{cell_seen, length-rows, row_at}
+use Rattle.cell_layout.proofs.CellReprLemmas.{cell_seen, length-rows, row_at}
 use Rattle.cell_layout.proofs.image.Image.code.Goals as goal
 
 pub code-requires-clause-row : goal.code-requires-clause-row

@@ -2,10 +2,10 @@ use Rattle.std.proofs.Common.{◌++◌, None, ap, ◌∙◌, length, arith}
 use Rattle.std.proofs.lemmas.Result.{err_from_is_err_and}
 use Rattle.cell_layout.specs.Image.{TableImage, rows_of}
 use Rattle.cell_layout.specs.Layout.{laid}
-use Rattle.cell_layout.proofs.Fitting.{valid_fits, fits_long}
-use Rattle.cell_layout.proofs.Growing.{beyond, within, by_keys, may_lie, keys_within}
-use Rattle.cell_layout.proofs.Laying.{laid_valid, laid_rows}
-use Rattle.cell_layout.proofs.Placed.{valid_parts}
+use Rattle.cell_layout.proofs.RowFitLemmas.{valid_fits, fits_long}
+use Rattle.cell_layout.proofs.GrownImageLemmas.{beyond, within, by_keys, may_lie, keys_within}
+use Rattle.cell_layout.proofs.LaidImageLemmas.{laid_valid, laid_rows}
+use Rattle.cell_layout.proofs.PlacedImageLemmas.{valid_parts}
 use Rattle.cell_layout.proofs.image.Image.relaid.Goals as goal
 
 pub returns-then-exceed-clause-refused : goal.returns-then-exceed-clause-refused
@@ -68,7 +68,7 @@ returns-clause-valid g c =
     let none = by_keys c.args.limit c.args.self.now c.args.batch.now c.as_slice.result.now c.as_slice-2.result.now inside.schema.key None few (ap (λ (i : TableImage). i.schema.key) c.self.view_is) (c.as_slice.ensures.value ∙ c.in_ok-held.ensures)
     c.as_slice-2.ensures c.in_ok-keys_apart.ensures in
     let may = may_lie c.args.self.now c.args.batch.now c.args.limit c.requires.valid c.requires.fit few c.requires.limit none in
-    laid_valid c.args.self.now.schema (rows_of c.args.self.now ++ c.args.batch.now) c.in_ok-lay_out.field-0 may
+    laid_valid c.rows_laid_out_anew_are_kept.ensures c.args.self.now.schema (rows_of c.args.self.now ++ c.args.batch.now) c.in_ok-lay_out.field-0 may
     (c.in_ok-lay_out.ensures
     ∙ (λ i. laid ((c.self.view_is i).schema) ((c.as_slice-3.ensures.value ∙ c.in_ok-held.ensures) i ++ c.as_slice-4.ensures i)))
 
@@ -79,6 +79,6 @@ returns-clause-rows g c =
     let none = by_keys c.args.limit c.args.self.now c.args.batch.now c.as_slice.result.now c.as_slice-2.result.now inside.schema.key None few (ap (λ (i : TableImage). i.schema.key) c.self.view_is) (c.as_slice.ensures.value ∙ c.in_ok-held.ensures)
     c.as_slice-2.ensures c.in_ok-keys_apart.ensures in
     let may = may_lie c.args.self.now c.args.batch.now c.args.limit c.requires.valid c.requires.fit few c.requires.limit none in
-    laid_rows c.args.self.now.schema (rows_of c.args.self.now ++ c.args.batch.now) c.in_ok-lay_out.field-0 may
+    laid_rows c.rows_laid_out_anew_are_kept.ensures c.args.self.now.schema (rows_of c.args.self.now ++ c.args.batch.now) c.in_ok-lay_out.field-0 may
     (c.in_ok-lay_out.ensures
     ∙ (λ i. laid ((c.self.view_is i).schema) ((c.as_slice-3.ensures.value ∙ c.in_ok-held.ensures) i ++ c.as_slice-4.ensures i)))

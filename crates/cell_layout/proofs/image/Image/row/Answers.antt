@@ -2,7 +2,7 @@ use Rattle.std.proofs.Common.{◌≡◌, IfOk, List, length, arith, ap, subst}
 use Rattle.order_codes.specs.Dictionary.{Classes}
 use Rattle.cell_layout.specs.Image.{TableImage, decoded_row}
 use Rattle.cell_layout.specs.CellRepr.{row_of_codes}
-use Rattle.cell_layout.proofs.KeptRows.{row_in_cell, row_in_rest, copied_row}
+use Rattle.cell_layout.proofs.CellReprLemmas.{row_in_cell, row_in_rest, copied_row}
 use Rattle.cell_layout.proofs.image.Image.row.Goals as goal
 
 pub returns-then-left-cell-clause-row : goal.returns-then-left-cell-clause-row

@@ -1,6 +1,6 @@
 use Rattle.std.proofs.Common.{◌≡◌, ◌∙◌, sym, ap, find, position, slice_get, Some, None}
 use Rattle.std.proofs.lemmas.List.Folds.{find_at}
-use Rattle.star_engine.proofs.TableListLemmas.{place_is, no_place, finds_none, find-map}
+use Rattle.blink_lists.proofs.FindLemmas.{place_is, no_place, finds_none, find-map}
 use Rattle.star_engine.specs.EngineRepr.{table_of}
 use Rattle.star_engine.proofs.StepLemmas.{called}
 use Rattle.star_engine.proofs.engine.Engine.find.Goals as goal

@@ -1,0 +1,2 @@
+pub mod ColumnClasses
+pub mod ColumnStats
