@@ -18,7 +18,7 @@ use Rattle.blink_base.specs.declared.answer.Field.{Field}
 use Rattle.blink_base.specs.declared.answer.Field.TheVariants.{Null, Number, Text, Date}
 use Rattle.blink_base.specs.Values.{Row, value_cmp, same_row}
 use Rattle.blink_base.specs.ValueOrder.{value_total, value_same}
-use Rattle.blink_base.specs.Lines.{Line, LineKey, field_rank, field_number, field_bytes, field_cmp, directed, by_item, line_cmp, cut_at, printed_lines, sum_of, over_some, sum_field, average_field, field_if_some, least_field, greatest_field, OrdersLines}
+use Rattle.blink_base.specs.Lines.{Line, LineKey, field_rank, field_number, field_bytes, field_cmp, directed, by_item, line_cmp, cut_at, printed_lines, sum_of, over_some, sum_field, average_field, field_if_some, least_field, greatest_field, OrdersLines, LinesInAnyOrder, TotalsInAnyOrder, TellsRows}
 
 both_equal : (a b : Ordering) → ordering_then a b ≡ Equal → (a ≡ Equal) × (b ≡ Equal)
 both_equal Less b e = absurd (true≢false (ap is_lt e))
@@ -72,23 +72,26 @@ pub orders_lines : OrdersLines
 orders_lines keys = (line_total keys, line_same keys)
 
 -- lines are printed in one order
-pub printed_lines-rearranged : (keys : List LineKey) (limit : Option ℕ) {xs ys : List Line} → Rearranged xs ys → printed_lines keys limit xs ≡ printed_lines keys limit ys
+printed_lines-rearranged : (keys : List LineKey) (limit : Option ℕ) {xs ys : List Line} → Rearranged xs ys → printed_lines keys limit xs ≡ printed_lines keys limit ys
 printed_lines-rearranged keys limit {xs} {ys} r = ap (cut_at limit) (in_order_rearranged (line_cmp keys) (line_total keys) (line_same keys) xs ys r)
 
 -- rows that are told alike are one
 row_same : (x y : Row) → slice_cmp value_cmp x y ≡ Equal → x ≡ y
 row_same = lists_same value_cmp value_same
 
-pub same_row-one : (x y : Row) → same_row x y ≡ true → x ≡ y
+same_row-one : (x y : Row) → same_row x y ≡ true → x ≡ y
 same_row-one x y e = row_same x y ((Equal-is (slice_cmp value_cmp x y)).0 e)
 
-pub same_row-back : (x y : Row) → same_row x y ≡ same_row y x
+same_row-itself : (x : Row) → same_row x x ≡ true
+same_row-itself x = (eq_by_cmp_equiv (lists_total value_total)).refl x
+
+same_row-back : (x y : Row) → same_row x y ≡ same_row y x
 same_row-back x y = (eq_by_cmp_equiv (lists_total value_total)).symm x y
 
-pub least_field-rearranged : {xs ys : List Value} → Rearranged xs ys → least_field xs ≡ least_field ys
+least_field-rearranged : {xs ys : List Value} → Rearranged xs ys → least_field xs ≡ least_field ys
 least_field-rearranged {xs} {ys} r = ap (λ vs. field_if_some (first_of vs)) (in_order_rearranged value_cmp value_total value_same xs ys r)
 
-pub greatest_field-rearranged : {xs ys : List Value} → Rearranged xs ys → greatest_field xs ≡ greatest_field ys
+greatest_field-rearranged : {xs ys : List Value} → Rearranged xs ys → greatest_field xs ≡ greatest_field ys
 greatest_field-rearranged {xs} {ys} r =
     ap (λ vs. field_if_some (first_of vs)) (in_order_rearranged (flip_args value_cmp) (back_total value_total) (λ x y e. sym (value_same y x e)) xs ys r)
 
@@ -105,9 +108,23 @@ over_some-same f [] (y ∷ ys) e l = absurd (omega (arith, l))
 over_some-same f (x ∷ xs) [] e l = absurd (omega (arith, l))
 over_some-same f (x ∷ xs) (y ∷ ys) e l = e
 
-pub sum_field-rearranged : {xs ys : List ℤ} → Rearranged xs ys → sum_field xs ≡ sum_field ys
+sum_field-rearranged : {xs ys : List ℤ} → Rearranged xs ys → sum_field xs ≡ sum_field ys
 sum_field-rearranged {xs} {ys} r = over_some-same (λ ns. Number (sum_of ns)) xs ys (ap (λ n. Number n) (sum_of-rearranged r)) (length-rearranged r)
 
-pub average_field-rearranged : {xs ys : List ℤ} → Rearranged xs ys → average_field xs ≡ average_field ys
+average_field-rearranged : {xs ys : List ℤ} → Rearranged xs ys → average_field xs ≡ average_field ys
 average_field-rearranged {xs} {ys} r =
     over_some-same (λ ns. Number (int_div (sum_of ns) (pos (length ns)))) xs ys (λ i. Number (int_div (sum_of-rearranged r i) (pos (length-rearranged r i)))) (length-rearranged r)
+
+pub lines_in_any_order : LinesInAnyOrder
+lines_in_any_order keys limit xs ys r = printed_lines-rearranged keys limit r
+
+pub totals_in_any_order : TotalsInAnyOrder
+totals_in_any_order = record {
+  least = λ xs ys r. least_field-rearranged r;
+  greatest = λ xs ys r. greatest_field-rearranged r;
+  sum = λ xs ys r. sum_field-rearranged r;
+  average = λ xs ys r. average_field-rearranged r;
+}
+
+pub tells_rows : TellsRows
+tells_rows = record { one = same_row-one; itself = same_row-itself; back = same_row-back }
