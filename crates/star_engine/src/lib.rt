@@ -17,6 +17,3 @@ mod written;
 pub use engine::Engine;
 pub use fault::EngineError;
 pub use table::Table;
-
-#[cfg(test)]
-mod tests;

@@ -1,5 +1,5 @@
 use Rattle.star_engine.specs.EngineRepr.{HasTables}
-use Rattle.star_engine.proofs.tests.tables_made.Given as goal
+use Rattle.program_tests.proofs.engine.tables_made.Given as goal
 
 abbrev pub invariant-loop : goal.invariant-loop
 invariant-loop g l = HasTables l.engine

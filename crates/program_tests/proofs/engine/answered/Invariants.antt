@@ -1,5 +1,5 @@
 use Rattle.star_engine.specs.EngineRepr.{HasTables}
-use Rattle.star_engine.proofs.tests.answered.Given as goal
+use Rattle.program_tests.proofs.engine.answered.Given as goal
 
 abbrev pub invariant-loop-place : goal.invariant-loop-place
 invariant-loop-place g l = HasTables l.engine

@@ -1,11 +1,12 @@
+// Statements over an engine.
 ghost use Rattle.std.specs.Prelude.{◌≡◌, ◌≤◌, ◌<◌, IsTrue};
 ghost use Rattle.blink_lists.specs.declared.limits.TheConstants.{MOST_ROWS};
 ghost use Rattle.star_sql.specs.WellFormed.{is_well_formed};
 ghost use Rattle.star_engine.specs.EngineRepr.{HasTables};
 
-use super::*;
 use blink_base::{Limits, List, Word};
 use report_text::refusal_text;
+use star_engine::{Engine, EngineError};
 use star_lex::tokens;
 use star_sql::{Statement, parse};
 use std::alloc::{AllocError, Global};
@@ -223,16 +224,21 @@ fn tables_made<N: ledger::Ledger>(
 
 #[test]
 fn tables_are_changed(rt: HostRuntime) -> Result<(), Fail> {
-    let alloc = rt.alloc();
-    assert_eq!(rt;
-        answered::<Brand>(alloc, Blank::new(1), 8388608, &CHANGES)?,
-        CHANGES.len()
-    );
-    assert_eq!(rt;
-        answered::<Brand>(alloc, Blank::new(1), 2, &FEW_ROWS)?,
-        FEW_ROWS.len()
-    );
-    let (made, refused) = tables_made::<Brand>(alloc, Blank::new(1))?;
+    let all = answered::<Brand>(rt.alloc(), Blank::new(1), 8_388_608, &CHANGES)?;
+    assert_eq!(rt; all, CHANGES.len());
+    Ok(())
+}
+
+#[test]
+fn rows_are_limited(rt: HostRuntime) -> Result<(), Fail> {
+    let all = answered::<Brand>(rt.alloc(), Blank::new(1), 2, &FEW_ROWS)?;
+    assert_eq!(rt; all, FEW_ROWS.len());
+    Ok(())
+}
+
+#[test]
+fn tables_are_limited(rt: HostRuntime) -> Result<(), Fail> {
+    let (made, refused) = tables_made::<Brand>(rt.alloc(), Blank::new(1))?;
     assert_eq!(rt; made, 64);
     assert_eq!(rt; refused.as_slice(), "refused: too many tables\n".as_bytes());
     Ok(())
