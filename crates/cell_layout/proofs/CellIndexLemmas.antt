@@ -41,8 +41,8 @@ next-less (x ∷ keys) k zero d s e lt = absurd (omega arith)
 next-less (x ∷ keys) zero (suc j) d s e lt = above-at x keys j d s.0 (omega arith)
 next-less (x ∷ keys) (suc k) (suc j) d s e lt = next-less keys k j d s.1 (omega arith) (omega arith)
 
-none : Cell
-none = record { classes = []; plan = []; codes = []; rows = 0 }
+pub empty_cell : Cell
+empty_cell = record { classes = []; plan = []; codes = []; rows = 0 }
 
 module _ (cells : List Cell) where
   pub key-here : (k : ℕ) (d : Cell) → k < length cells → (get_or cells k d).classes ≡ key_at cells k
@@ -59,11 +59,11 @@ module _ (cells : List Cell) where
   -- what a binary search among cells in order finds
   pub cell_place : (classes : List ℕ) (r : Result ℕ ℕ) → rises cell_cmp (keys_of_cells cells) ≡ true → IsSearchInRange r (length cells)
       → IsBinarySearchResult (λ (cell : Cell). cell_cmp cell.classes classes) cells r → IsCellPlace cells classes r
-  cell_place classes (Ok i) up within found = record { within = within; here = sym (key-here i none within) ∙ exact_bytes (get_or cells i none).classes classes (found none) }
+  cell_place classes (Ok i) up within found = record { within = within; here = sym (key-here i empty_cell within) ∙ exact_bytes (get_or cells i empty_cell).classes classes (found empty_cell) }
   cell_place classes (Err i) up within found =
       let point = found (searchable classes up) in
       record {
         within = within;
-        before = λ k lt. ap (λ x. cell_cmp x classes) (sym (key-here k none (omega arith))) ∙ point.0 k none (omega arith) lt;
-        behind = λ k le lt. ap (λ x. cell_cmp x classes) (sym (key-here k none lt)) ∙ point.1 k none le lt;
+        before = λ k lt. ap (λ x. cell_cmp x classes) (sym (key-here k empty_cell (omega arith))) ∙ point.0 k empty_cell (omega arith) lt;
+        behind = λ k le lt. ap (λ x. cell_cmp x classes) (sym (key-here k empty_cell lt)) ∙ point.1 k empty_cell le lt;
       }

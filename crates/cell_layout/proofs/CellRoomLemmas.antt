@@ -14,8 +14,7 @@ use Rattle.cell_layout.specs.Layout.{cell_cmp}
 use Rattle.cell_layout.specs.CellIndex.{IsFound, IsMissing, keys_of_cells, key_at}
 use Rattle.cell_layout.specs.InsertRow.{Rising}
 use Rattle.cell_layout.specs.MergeCells.{bare_cell, IsSameButRoom, AreRoomier, IsRoomier, AreRoomierCells, HaveRoom, HasRoomFor, HaveRoomFor}
-use Rattle.cell_layout.proofs.CellIndexLemmas.{rising-from, above-at, key-here}
-use Rattle.cell_layout.proofs.InsertRowReprLemmas.{empty_cell}
+use Rattle.cell_layout.proofs.CellIndexLemmas.{rising-from, above-at, key-here, empty_cell}
 use Rattle.cell_layout.proofs.RowPartitionLemmas.{on_ok}
 
 no_codes : List ℕ × ℕ

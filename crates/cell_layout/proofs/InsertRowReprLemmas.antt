@@ -23,7 +23,7 @@ use Rattle.cell_layout.specs.CellIndex.{AreWithin, HasPushed, IsFound, IsMissing
 use Rattle.cell_layout.specs.InsertRow.{one_row, with_row, put_row, keys_in, Rising}
 use Rattle.cell_layout.specs.InsertRowRepr.{IsGrown, IsPushed, IsFirst, IsPut, rows_in_all}
 use Rattle.cell_layout.proofs.InsertRowLemmas.{turned, put-less, put-equal, put-greater}
-use Rattle.cell_layout.proofs.CellIndexLemmas.{rising-from, above-at}
+use Rattle.cell_layout.proofs.CellIndexLemmas.{rising-from, above-at, empty_cell}
 use Rattle.cell_layout.proofs.CellReprLemmas.{length-rows}
 use Rattle.blink_lists.proofs.SliceLemmas.{map-insert}
 use Rattle.blink_lists.proofs.ZipLemmas.{zip-all, pair-all}
@@ -132,9 +132,6 @@ grown_cell columns old new r kept grown same w few =
       };
       image = image;
     }
-
-pub empty_cell : Cell
-empty_cell = record { classes = []; plan = []; codes = []; rows = 0 }
 
 pub keys-kept : (cells : List Cell) → keys_in (map cell_image cells) ≡ keys_of_cells cells
 keys-kept [] = refl

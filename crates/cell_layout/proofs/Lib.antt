@@ -6,6 +6,7 @@ pub mod CellReprLemmas
 pub mod CellRoomLemmas
 pub mod CellRowLemmas
 pub mod CellUnionLemmas
+pub mod CellViewLemmas
 pub mod CellWidthLemmas
 pub mod CodedRowLemmas
 pub mod GrownImageLemmas

@@ -20,8 +20,8 @@ use Rattle.cell_layout.specs.InsertRowRepr.{rows_in_all}
 use Rattle.cell_layout.specs.MergeCells.{HaveRoom, HasRoomFor, HaveRoomFor, IsAbsorbedAt, rows_under, lookup, AreAlike, IsMergedIn, AreMerged}
 use Rattle.cell_layout.proofs.InsertRowLemmas.{Rising-put}
 use Rattle.cell_layout.proofs.CellLemmas.{same_back}
-use Rattle.cell_layout.proofs.CellIndexLemmas.{rising-from, rises-from, above-at, key-here}
-use Rattle.cell_layout.proofs.InsertRowReprLemmas.{empty_cell, keys-kept, put-missing}
+use Rattle.cell_layout.proofs.CellIndexLemmas.{rising-from, rises-from, above-at, key-here, empty_cell}
+use Rattle.cell_layout.proofs.InsertRowReprLemmas.{keys-kept, put-missing}
 use Rattle.blink_lists.proofs.SliceLemmas.{map-insert}
 use Rattle.cell_layout.proofs.CellLookupLemmas.{lookup-set, lookup-insert}
 use Rattle.cell_layout.proofs.CellUnionLemmas.{absorbed_cell}

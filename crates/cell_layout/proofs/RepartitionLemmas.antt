@@ -13,6 +13,7 @@ use Rattle.order_codes.specs.declared.place.CodePlace.{CodePlace}
 use Rattle.order_codes.specs.Dictionary.{Classes, are_classes, class_at, place_of_value, decoded}
 use Rattle.order_codes.specs.Codes.{FindsDecoded}
 use Rattle.cell_layout.specs.Image.{TableImage, CellImage, CodedRow, places_of, is_coded, coded, decoded_row, cell_rows}
+use Rattle.cell_layout.specs.InsertRow.{keys_in}
 use Rattle.cell_layout.specs.Layout.{cell_cmp, same_cell, cell_of, cells_of}
 use Rattle.cell_layout.specs.Valid.{are_codes, is_row_count, is_cell, is_rest_row}
 use Rattle.blink_base.specs.RowFits.{fits}
@@ -87,10 +88,6 @@ abbrev spread : List CellImage → List CodedRow
 spread [] = []
 spread (cell ∷ cells) = map (row_in cell.classes) cell.rows ++ spread cells
 
--- the class numbers of cells
-abbrev keys : List CellImage → List (List ℕ)
-keys cells = map (λ cell. cell.classes) cells
-
 rows_again : FindsDecoded → (columns : List Classes) (classes : List ℕ) (rows : List (List ℕ)) → length classes ≡ length columns → list_all are_classes columns ≡ true → list_all (are_codes columns classes) rows ≡ true
     → (list_all (is_coded columns) (map (decoded_row columns classes) rows) ≡ true) × (map (coded columns) (map (decoded_row columns classes) rows) ≡ map (row_in classes) rows)
 rows_again finds columns classes [] as_many valid all = (refl, refl)
@@ -136,19 +133,19 @@ others_all k (j ∷ ks) none =
     let parts = or_parts (same_cell k j) (list_any (same_cell k) ks) none in
     rw (ap not parts.0) (ap (λ l. j ∷ l) (others_all k ks parts.1))
 
-keys_once : (cells : List CellImage) → list_all (λ cell. nat_le 1 (length cell.rows)) cells ≡ true → are_distinct same_cell (keys cells) ≡ true → once_each same_cell (map (λ r. r.classes) (spread cells)) ≡ keys cells
+keys_once : (cells : List CellImage) → list_all (λ cell. nat_le 1 (length cell.rows)) cells ≡ true → are_distinct same_cell (keys_in cells) ≡ true → once_each same_cell (map (λ r. r.classes) (spread cells)) ≡ keys_in cells
 keys_once [] some each = refl
 keys_once (cell ∷ cells) some each =
     let parts = and_parts (nat_le 1 (length cell.rows)) (list_all (λ c. nat_le 1 (length c.rows)) cells) some in
-    let apart = and_parts (not (list_any (same_cell cell.classes) (keys cells))) (are_distinct same_cell (keys cells)) each in
+    let apart = and_parts (not (list_any (same_cell cell.classes) (keys_in cells))) (are_distinct same_cell (keys_in cells)) each in
     by cell.rows parts.0 (keys_once cells parts.1 apart.1) (not-true _ apart.0)
   where
-    by : (rows : List (List ℕ)) → nat_le 1 (length rows) ≡ true → once_each same_cell (map (λ r. r.classes) (spread cells)) ≡ keys cells → list_any (same_cell cell.classes) (keys cells) ≡ false
-        → once_each same_cell (map (λ r. r.classes) (map (row_in cell.classes) rows ++ spread cells)) ≡ cell.classes ∷ keys cells
+    by : (rows : List (List ℕ)) → nat_le 1 (length rows) ≡ true → once_each same_cell (map (λ r. r.classes) (spread cells)) ≡ keys_in cells → list_any (same_cell cell.classes) (keys_in cells) ≡ false
+        → once_each same_cell (map (λ r. r.classes) (map (row_in cell.classes) rows ++ spread cells)) ≡ cell.classes ∷ keys_in cells
     by [] none rest new = absurd (true≢false (sym none))
     by (codes ∷ rows) one rest new =
         ap (once_each same_cell) (map-append (λ (r : CodedRow). r.classes) (map (row_in cell.classes) (codes ∷ rows)) (spread cells))
-        ∙ ap (λ l. cell.classes ∷ l) (run_once cell.classes rows (map (λ (r : CodedRow). r.classes) (spread cells)) ∙ ap (filter (others cell.classes)) rest ∙ others_all cell.classes (keys cells) new)
+        ∙ ap (λ l. cell.classes ∷ l) (run_once cell.classes rows (map (λ (r : CodedRow). r.classes) (spread cells)) ∙ ap (filter (others cell.classes)) rest ∙ others_all cell.classes (keys_in cells) new)
 
 own_rows : (k : List ℕ) (rows : List (List ℕ)) → map (λ (r : CodedRow). r.codes) (filter (λ (r : CodedRow). same_cell k r.classes) (map (row_in k) rows)) ≡ rows
 own_rows k [] = refl
@@ -158,10 +155,10 @@ other_rows : (k j : List ℕ) (rows : List (List ℕ)) → same_cell k j ≡ fal
 other_rows k j [] other = refl
 other_rows k j (codes ∷ rows) other = rw other (other_rows k j rows other)
 
-no_rows : (k : List ℕ) (cells : List CellImage) → list_any (same_cell k) (keys cells) ≡ false → filter (λ (r : CodedRow). same_cell k r.classes) (spread cells) ≡ []
+no_rows : (k : List ℕ) (cells : List CellImage) → list_any (same_cell k) (keys_in cells) ≡ false → filter (λ (r : CodedRow). same_cell k r.classes) (spread cells) ≡ []
 no_rows k [] none = refl
 no_rows k (cell ∷ cells) none =
-    let parts = or_parts (same_cell k cell.classes) (list_any (same_cell k) (keys cells)) none in
+    let parts = or_parts (same_cell k cell.classes) (list_any (same_cell k) (keys_in cells)) none in
     filter-append (λ (r : CodedRow). same_cell k r.classes) (map (row_in cell.classes) cell.rows) (spread cells) ∙ rw (other_rows k cell.classes cell.rows parts.0, no_rows k cells parts.1) refl
 
 -- rows of another cell make no difference
@@ -175,25 +172,25 @@ later_cells j rows more (k ∷ ks) none =
     ap (λ (l : List CodedRow). let c : CellImage = record { classes = k; rows = map (λ (r : CodedRow). r.codes) l } in c ∷ map (cell_of (map (row_in j) rows ++ more)) ks) here
     ∙ ap (λ l. cell_of more k ∷ l) rest
 
-cells_back : (cells : List CellImage) → are_distinct same_cell (keys cells) ≡ true → map (cell_of (spread cells)) (keys cells) ≡ cells
+cells_back : (cells : List CellImage) → are_distinct same_cell (keys_in cells) ≡ true → map (cell_of (spread cells)) (keys_in cells) ≡ cells
 cells_back [] each = refl
 cells_back (cell ∷ cells) each =
-    let apart = and_parts (not (list_any (same_cell cell.classes) (keys cells))) (are_distinct same_cell (keys cells)) each in
+    let apart = and_parts (not (list_any (same_cell cell.classes) (keys_in cells))) (are_distinct same_cell (keys_in cells)) each in
     let new = not-true _ apart.0 in
     let k = cell.classes in
     let here : filter (λ (r : CodedRow). same_cell k r.classes) (map (row_in k) cell.rows ++ spread cells) ≡ filter (λ (r : CodedRow). same_cell k r.classes) (map (row_in k) cell.rows) =
     filter-append (λ (r : CodedRow). same_cell k r.classes) (map (row_in k) cell.rows) (spread cells) ∙ rw (no_rows k cells new) (append-nil _) in
     let codes = ap (map (λ (r : CodedRow). r.codes)) here ∙ own_rows k cell.rows in
-    let rest = later_cells k cell.rows (spread cells) (keys cells) new ∙ cells_back cells apart.1 in
-    ap (λ (l : List (List ℕ)). let c : CellImage = record { classes = k; rows = l } in c ∷ map (cell_of (map (row_in k) cell.rows ++ spread cells)) (keys cells)) codes
+    let rest = later_cells k cell.rows (spread cells) (keys_in cells) new ∙ cells_back cells apart.1 in
+    ap (λ (l : List (List ℕ)). let c : CellImage = record { classes = k; rows = l } in c ∷ map (cell_of (map (row_in k) cell.rows ++ spread cells)) (keys_in cells)) codes
     ∙ ap (λ l. cell ∷ l) rest
 
 -- cells that rise are those of their rows
-cells_stand : (cells : List CellImage) → list_all (λ cell. nat_le 1 (length cell.rows)) cells ≡ true → rises cell_cmp (keys cells) ≡ true → cells_of (spread cells) ≡ cells
+cells_stand : (cells : List CellImage) → list_all (λ cell. nat_le 1 (length cell.rows)) cells ≡ true → rises cell_cmp (keys_in cells) ≡ true → cells_of (spread cells) ≡ cells
 cells_stand cells some up =
-    let each = distinct_rises cell_cmp nat_list_cmp_total (keys cells) up in
+    let each = distinct_rises cell_cmp nat_list_cmp_total (keys_in cells) up in
     ap (λ ks. map (cell_of (spread cells)) (in_order cell_cmp ks)) (keys_once cells some each)
-    ∙ ap (map (cell_of (spread cells))) (in_order_rising cell_cmp (keys cells) up) ∙ cells_back cells each
+    ∙ ap (map (cell_of (spread cells))) (in_order_rising cell_cmp (keys_in cells) up) ∙ cells_back cells each
 
 -- a cell has a row
 pub filled : (columns : List Classes) (cell : CellImage) → is_cell columns cell ≡ true → nat_le 1 (length cell.rows) ≡ true

@@ -4,6 +4,11 @@ ghost use Rattle.cell_layout.specs.Layout.{empty_image};
 ghost use Rattle.cell_layout.specs.Valid.{is_valid};
 ghost use Rattle.blink_base.specs.RowFits.{is_schema};
 
+mod append;
+mod build;
+mod cells;
+mod rows;
+
 use crate::Cell;
 use blink_base::{Column, List, Roomy, Row, Schema};
 use order_codes::Dict;

@@ -1,26 +1,15 @@
 //! The image of a table: its rows as codes in cells.
 #![tactic(auto)]
 
-mod apart;
-mod append;
-mod blocks;
-mod build;
 mod cell;
-mod codes;
+mod cells;
+mod duplicate_keys;
 pub mod examples;
 mod fault;
-mod find;
-mod first;
 mod image;
 pub mod laws;
-mod merge;
-mod place;
-mod room;
-mod rows;
+mod row_codes;
 
 pub use cell::Cell;
 pub use fault::LayoutError;
 pub use image::Image;
-
-#[cfg(test)]
-mod tests;

@@ -4,6 +4,8 @@
 #[cfg(test)]
 mod banks;
 #[cfg(test)]
+mod cells;
+#[cfg(test)]
 mod codes;
 #[cfg(test)]
 mod counters;

@@ -6,7 +6,6 @@ pub mod EngineRepr
 pub mod Examples
 pub mod Faults
 pub mod InsertedRows
-pub mod Lined
 pub mod LoadedRows
 pub mod Soundness
 pub mod State

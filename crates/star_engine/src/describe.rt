@@ -1,19 +1,16 @@
 // What DESCRIBE tells of a table.
-ghost use Rattle.std.specs.Prelude.{◌≡◌, IfOk, map, length};
-ghost use Rattle.std.specs.List.{zip};
-ghost use Rattle.bank_pack.specs.Banks.{tuplet_bits, pages_for};
-ghost use Rattle.cell_layout.specs.CellRepr.{most_image_rows};
+ghost use Rattle.std.specs.Prelude.{◌≡◌, ◌<◌, IfOk, map, length};
+ghost use Rattle.bank_pack.specs.Banks.{tuplet_bits};
+ghost use Rattle.cell_layout.specs.Image.{cell_at};
 ghost use Rattle.star_engine.specs.Causes.{IsAnswer};
 ghost use Rattle.star_engine.specs.State.{Tables};
-ghost use Rattle.star_engine.specs.TableLayout.{class_lines, column_line, column_lines, is_key_column, layout_of, described};
-ghost use Rattle.star_engine.specs.Lined.{line_kept};
+ghost use Rattle.star_engine.specs.TableLayout.{cell_line, class_lines, column_line, column_lines, is_key_column, layout_of, described};
 ghost use Rattle.star_engine.specs.EngineRepr.{IsEngineOf};
 
 use crate::{Engine, EngineError};
 use bank_pack::BankPlan;
 use blink_base::{Column, List, Refusal, Schema, Word};
-use blink_lists::PAGE_ROWS;
-use cell_layout::{Cell, Image};
+use cell_layout::Image;
 use order_codes::Dict;
 use report_text::{CellLine, ClassLine, ColumnLine, LayoutLines};
 use std::alloc::{AllocError, Global};
@@ -89,32 +86,30 @@ fn bank_widths(alloc: Global, plan: &BankPlan) -> Result<List<u32>, AllocError>
     Ok(widths)
 }
 
-// How many pages so many rows take.
-fn pages_of(rows: u64) -> u64
-    ensures { result ≡ pages_for rows }
-{
-    rows.div_ceil(PAGE_ROWS)
-}
-
 // The line of a cell.
-fn cell_line(alloc: Global, cell: &Cell) -> Result<CellLine, AllocError>
-    ensures { IfOk result (λ line. line ≡ line_kept cell.now) }
+fn cell_line<M: Ledger>(
+    alloc: Global,
+    image: &Image<M>,
+    cell: usize,
+) -> Result<CellLine, AllocError>
+    requires { cell < length image.now.cells }
+    ensures { IfOk result (λ line. line ≡ cell_line image.now (cell_at image.now cell)) }
 {
     Ok(CellLine {
-        classes: List::from_vec(Vec::from_slice(alloc, cell.classes.as_slice())?),
-        rows: cell.rows,
-        pages: pages_of(cell.rows),
-        banks: bank_widths(alloc, &cell.plan)?,
+        classes: List::from_vec(Vec::from_slice(alloc, image.cell_classes(cell))?),
+        rows: image.cell_rows(cell),
+        pages: image.cell_pages(cell),
+        banks: bank_widths(alloc, image.cell_plan(cell))?,
     })
 }
 
 // The lines of the cells.
-fn cell_lines(alloc: Global, cells: &[Cell]) -> Result<List<CellLine>, AllocError>
-    ensures { IfOk result (λ lines. lines ≡ map line_kept cells.now) }
+fn cell_lines<M: Ledger>(alloc: Global, image: &Image<M>) -> Result<List<CellLine>, AllocError>
+    ensures { IfOk result (λ lines. lines ≡ map (cell_line image.now) image.now.cells) }
 {
     let mut lines = List::new(alloc);
-    for cell in cells {
-        lines.push(cell_line(alloc, cell)?)?;
+    for cell in 0..image.cell_count() {
+        lines.push(cell_line(alloc, image, cell)?)?;
     }
     Ok(lines)
 }
@@ -129,11 +124,11 @@ fn layout_of<M: Ledger>(
 {
     Ok(LayoutLines {
         table: name.copy(alloc)?,
-        rows: image.rows,
+        rows: image.row_count(),
         blocks: image.blocks(),
-        columns: column_lines(alloc, &image.schema, image.dicts.as_slice())?,
-        cells: cell_lines(alloc, image.cells.as_slice())?,
-        rest: image.rest.len() as u64,
+        columns: column_lines(alloc, image.schema(), image.dictionaries())?,
+        cells: cell_lines(alloc, image)?,
+        rest: image.rest_count() as u64,
     })
 }
 

@@ -1,6 +1,6 @@
 use Rattle.std.proofs.Common.{◌≡◌, map, take}
-use Rattle.star_engine.specs.Lined.{line_kept}
+use Rattle.star_engine.specs.TableLayout.{cell_line}
 use Rattle.star_engine.proofs.describe.cell_lines.Given as goal
 
 abbrev pub invariant-loop-cell : goal.invariant-loop-cell
-invariant-loop-cell l = l.lines ≡ map line_kept (take l.cell-index l.cells)
+invariant-loop-cell g l = l.lines ≡ map (cell_line l.image) (take l.cell l.image.cells)

@@ -1,4 +1,0 @@
-use Rattle.cell_layout.proofs.tests.shown_of.Given as goal
-
-abbrev pub ghosts-grown_image : goal.ghosts-grown_image
-ghosts-grown_image a = record { name = a.blank.name; parts = a.blank.parts }
