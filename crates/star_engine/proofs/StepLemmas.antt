@@ -34,6 +34,8 @@ use Rattle.star_engine.specs.Soundness.{IsSoundTable}
 use Rattle.star_engine.proofs.TableListLemmas.{Finding, found_at, names}
 use Rattle.blink_lists.proofs.FindLemmas.{place-map, place_is, no_place, finds, finds_none}
 use Rattle.star_engine.proofs.RefusalLemmas.{as_refusal, first_told, cause_told, few_rows, none_refused, only_memory}
+use Rattle.star_engine.specs.declared.growth.Growth.{Growth}
+use Rattle.star_engine.specs.declared.growth.Growth.TheVariants.{Anew}
 use Rattle.star_engine.proofs.SoundnessLemmas.{sound-with, sound-without, sound-and}
 
 none_named : (tables : Tables) (name : List ℕ) → has_table tables name ≡ false → list_any (bytes_eq name) (names tables) ≡ false
@@ -79,8 +81,8 @@ module _ {M : Type 0} where
     pub no_drop : position (called name) engine.tables ≡ None → dropped tables name ≡ Err (refusal.UnknownTable name)
     no_drop none = ap (drop_found tables name) (unknown none)
 
-    pub no_add : (anew : Bool) (read : Schema → Result (List Row) Refusal) → position (called name) engine.tables ≡ None → added engine.limits anew tables name read ≡ Err (refusal.UnknownTable name)
-    no_add anew read none = ap (add_found engine.limits anew tables name read) (unknown none)
+    pub no_add : (growth : Growth) (read : Schema → Result (List Row) Refusal) → position (called name) engine.tables ≡ None → added engine.limits growth tables name read ≡ Err (refusal.UnknownTable name)
+    no_add growth read none = ap (add_found engine.limits growth tables name read) (unknown none)
 
     pub no_order : position (called name) engine.tables ≡ None → reorganized tables name ≡ Err (refusal.UnknownTable name)
     no_order none = ap (reorganize_found tables name) (unknown none)
@@ -155,36 +157,36 @@ module _ {M : Type 0} where
       was_sound = let P : AcceptedTable → Type 0 = IsSoundTable engine.limits in subst P (finding.is.here finding.held) (of.sound.each at finding.held finding.is.within)
 
       -- a batch is refused as the definition says
-      pub refused : (anew : Bool) (read : Schema → Result (List Row) Refusal) (batch : List Row) (why : LayoutError) (d : Table M) → read (get_or engine.tables at d).image.schema ≡ Ok batch
+      pub refused : (growth : Growth) (read : Schema → Result (List Row) Refusal) (batch : List Row) (why : LayoutError) (d : Table M) → read (get_or engine.tables at d).image.schema ≡ Ok batch
           → (why ≢ Memory → refusal_of engine.limits.rows (get_or engine.tables at d).image batch ≡ Some why)
-          → IsCause (layout_error why) (added engine.limits anew tables name read)
-      refused anew read batch why d told refusal =
+          → IsCause (layout_error why) (added engine.limits growth tables name read)
+      refused growth read batch why d told refusal =
           let held = finding.held in
           let here = stands d in
           let is_told : read held.image.schema ≡ Ok batch = ap (λ (t : Table M). read t.image.schema) (sym here) ∙ told in
-          let result : added engine.limits anew tables name read ≡ unless (as_refusal (refusal_of engine.limits.rows held.image batch)) (with_table tables (added_to anew held batch), length batch) =
-          (ap (add_found engine.limits anew tables name read) finding.is.found ∙ ap (add_rows engine.limits anew tables held) is_told
-          ∙ ap (λ o. unless o (with_table tables (added_to anew held batch), length batch)) (first_told engine.limits held batch was_sound.rows)) in
+          let result : added engine.limits growth tables name read ≡ unless (as_refusal (refusal_of engine.limits.rows held.image batch)) (with_table tables (added_to growth held batch), length batch) =
+          (ap (add_found engine.limits growth tables name read) finding.is.found ∙ ap (add_rows engine.limits growth tables held) is_told
+          ∙ ap (λ o. unless o (with_table tables (added_to growth held batch), length batch)) (first_told engine.limits held batch was_sound.rows)) in
           rw result (cause_told why (refusal_of engine.limits.rows held.image batch) _ (λ other. ap (λ (t : Table M). refusal_of engine.limits.rows t.image batch) (sym here) ∙ refusal other))
 
       -- a batch that can't be read is refused
-      pub unread : (anew : Bool) (read : Schema → Result (List Row) Refusal) (e : EngineError) (d : Table M) → IsCause e (read (get_or engine.tables at d).image.schema) → IsCause e (added engine.limits anew tables name read)
-      unread anew read e d told =
+      pub unread : (growth : Growth) (read : Schema → Result (List Row) Refusal) (e : EngineError) (d : Table M) → IsCause e (read (get_or engine.tables at d).image.schema) → IsCause e (added engine.limits growth tables name read)
+      unread growth read e d told =
           let held = finding.held in
           let is_told : IsCause e (read held.image.schema) = (let P : Table M → Type 0 = λ t. IsCause e (read t.image.schema) in subst P (stands d) told) in
-          let result : added engine.limits anew tables name read ≡ add_rows engine.limits anew tables held (read held.image.schema) = ap (add_found engine.limits anew tables name read) finding.is.found in
+          let result : added engine.limits growth tables name read ≡ add_rows engine.limits growth tables held (read held.image.schema) = ap (add_found engine.limits growth tables name read) finding.is.found in
           rw result (by e (read held.image.schema) is_told)
         where
-          by : (e : EngineError) (r : Result (List Row) Refusal) → IsCause e r → IsCause e (add_rows engine.limits anew tables finding.held r)
+          by : (e : EngineError) (r : Result (List Row) Refusal) → IsCause e r → IsCause e (add_rows engine.limits growth tables finding.held r)
           by (fault.Refused why) r told = rw told refl
           by fault.Memory r told = tt
 
-      module _ (anew : Bool) (new : List (Table M)) (batch : List Row) (d : Table M) (a : IsAddedAt anew engine.tables new at batch d) where
+      module _ (growth : Growth) (new : List (Table M)) (batch : List Row) (d : Table M) (a : IsAddedAt growth engine.tables new at batch d) where
         abbrev held' : AcceptedTable
-        held' = added_to anew finding.held batch
+        held' = added_to growth finding.held batch
 
-        is_added : IsAdded anew (table_of finding.held) a.table batch
-        is_added = let P : Table M → Type 0 = λ t. IsAdded anew t a.table batch in subst P (stands d) a.added
+        is_added : IsAdded growth (table_of finding.held) a.table batch
+        is_added = let P : Table M → Type 0 = λ t. IsAdded growth t a.table batch in subst P (stands d) a.added
 
         is_table : a.table ≡ table_of held'
         is_table = λ i. record { name = is_added.name i; image = is_added.image i }
@@ -213,14 +215,14 @@ module _ {M : Type 0} where
 
         -- a batch is added as the definition says
         pub made : (read : Schema → Result (List Row) Refusal) → read (get_or engine.tables at d).image.schema ≡ Ok batch → refusal_of engine.limits.rows (get_or engine.tables at d).image batch ≡ None
-            → IsMadeWith (added engine.limits anew tables name read) (length batch) (record engine { tables = new })
+            → IsMadeWith (added engine.limits growth tables name read) (length batch) (record engine { tables = new })
         made read told none =
             let held = finding.held in
             let is_told : read held.image.schema ≡ Ok batch = ap (λ (t : Table M). read t.image.schema) (sym (stands d)) ∙ told in
             record {
               tables = with_table tables held';
               given =
-                  ap (add_found engine.limits anew tables name read) finding.is.found ∙ ap (add_rows engine.limits anew tables held) is_told
+                  ap (add_found engine.limits growth tables name read) finding.is.found ∙ ap (add_rows engine.limits growth tables held) is_told
                   ∙ ap (λ o. unless o (with_table tables held', length batch)) (first_told engine.limits held batch was_sound.rows ∙ ap as_refusal (room none));
               kept = is_engine (few_rows engine.limits.rows held.image batch (room none));
             }
@@ -229,10 +231,10 @@ module _ {M : Type 0} where
       pub remade : (new : List (Table M)) (d : Table M) → IsAddedAt true engine.tables new at [] d → IsMade (reorganized tables name) (record engine { tables = new })
       remade new d a =
           let held = finding.held in
-          let same : added_to true held [] ≡ record { name = held.name; rows = held.rows; image = laid held.image.schema (rows_of held.image) } =
+          let same : added_to Anew held [] ≡ record { name = held.name; rows = held.rows; image = laid held.image.schema (rows_of held.image) } =
           (λ i. record { name = held.name; rows = append-nil held.rows i; image = laid held.image.schema (append-nil (rows_of held.image) i) }) in
           record {
-            tables = with_table tables (added_to true held []);
+            tables = with_table tables (added_to Anew held []);
             given = ap (reorganize_found tables name) finding.is.found ∙ ap (λ h. Ok (with_table tables h)) (sym same);
             kept = is_engine true new [] d a (let few = was_sound.few in omega arith);
           }
@@ -266,17 +268,17 @@ module _ {M : Type 0} where
     here = table_of (finding tables engine name of at is).held
 
     -- the same, as calls say it
-    pub unread_there : (anew : Bool) (read : Schema → Result (List Row) Refusal) (e : EngineError) → ((d : Table M) → IsCause e (read (get_or engine.tables at d).image.schema)) → IsCause e (added engine.limits anew tables name read)
-    unread_there anew read e told = unread tables engine name of at is anew read e here (told here)
+    pub unread_there : (growth : Growth) (read : Schema → Result (List Row) Refusal) (e : EngineError) → ((d : Table M) → IsCause e (read (get_or engine.tables at d).image.schema)) → IsCause e (added engine.limits growth tables name read)
+    unread_there growth read e told = unread tables engine name of at is growth read e here (told here)
 
-    pub refused_there : (anew : Bool) (read : Schema → Result (List Row) Refusal) (batch : List Row) (why : LayoutError) → ((d : Table M) → read (get_or engine.tables at d).image.schema ≡ Ok batch)
-        → ((d : Table M) → why ≢ Memory → refusal_of engine.limits.rows (get_or engine.tables at d).image batch ≡ Some why) → IsCause (layout_error why) (added engine.limits anew tables name read)
-    refused_there anew read batch why told refusal = refused tables engine name of at is anew read batch why here (told here) (refusal here)
+    pub refused_there : (growth : Growth) (read : Schema → Result (List Row) Refusal) (batch : List Row) (why : LayoutError) → ((d : Table M) → read (get_or engine.tables at d).image.schema ≡ Ok batch)
+        → ((d : Table M) → why ≢ Memory → refusal_of engine.limits.rows (get_or engine.tables at d).image batch ≡ Some why) → IsCause (layout_error why) (added engine.limits growth tables name read)
+    refused_there growth read batch why told refusal = refused tables engine name of at is growth read batch why here (told here) (refusal here)
 
-    pub made_there : (anew : Bool) (read : Schema → Result (List Row) Refusal) (batch : List Row) (new : List (Table M)) (count : ℕ) → count ≡ length batch → ((d : Table M) → read (get_or engine.tables at d).image.schema ≡ Ok batch)
-        → ((d : Table M) → refusal_of engine.limits.rows (get_or engine.tables at d).image batch ≡ None) → ((d : Table M) → IsAddedAt anew engine.tables new at batch d)
-        → IsMadeWith (added engine.limits anew tables name read) count (record engine { tables = new })
-    made_there anew read batch new count counted told room a = rw counted (made tables engine name of at is anew new batch here (a here) read (told here) (room here))
+    pub made_there : (growth : Growth) (read : Schema → Result (List Row) Refusal) (batch : List Row) (new : List (Table M)) (count : ℕ) → count ≡ length batch → ((d : Table M) → read (get_or engine.tables at d).image.schema ≡ Ok batch)
+        → ((d : Table M) → refusal_of engine.limits.rows (get_or engine.tables at d).image batch ≡ None) → ((d : Table M) → IsAddedAt growth engine.tables new at batch d)
+        → IsMadeWith (added engine.limits growth tables name read) count (record engine { tables = new })
+    made_there growth read batch new count counted told room a = rw counted (made tables engine name of at is growth new batch here (a here) read (told here) (room here))
 
     pub never_there : (why : LayoutError) (batch : List Row) → batch ≡ [] → ((d : Table M) → why ≢ Memory → refusal_of engine.limits.rows (get_or engine.tables at d).image batch ≡ Some why) → IsCause (layout_error why) (reorganized tables name)
     never_there why batch empty refusal = never tables engine name of at is why here (rw empty at (refusal here))

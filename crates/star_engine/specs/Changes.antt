@@ -15,6 +15,8 @@ use Rattle.cell_layout.specs.Layout.{laid, grown, empty_image}
 use Rattle.cell_layout.specs.Refusals.{repeated_key}
 use Rattle.blink_lists.specs.declared.limits.TheConstants.{MOST_COLUMNS}
 use Rattle.star_engine.specs.State.{AcceptedTable, Tables, find_table, has_table, with_table, without_table, and_table}
+use Rattle.star_engine.specs.declared.growth.Growth.{Growth}
+use Rattle.star_engine.specs.declared.growth.Growth.TheVariants.{Anew, Standing}
 use Rattle.blink_base.specs.declared.limits.TheConstants.{MOST_TABLES}
 
 -- one refusal where something holds, and else none
@@ -89,27 +91,27 @@ abbrev pub add_refusals : Limits → AcceptedTable → List Row → List Refusal
 add_refusals limits held rows = if_many limits (length held.rows + length rows) ++ if_repeated held.image.schema.key held.rows rows
 
 -- the image with a batch: all laid out anew, or the batch added to the standing layout
-abbrev pub image_with : Bool → TableImage → List Row → TableImage
-image_with true image rows = laid image.schema (rows_of image ++ rows)
-image_with false image rows = grown image rows
+abbrev pub image_with : Growth → TableImage → List Row → TableImage
+image_with Anew image rows = laid image.schema (rows_of image ++ rows)
+image_with Standing image rows = grown image rows
 
 -- the table with a batch behind its rows
-abbrev pub added_to : Bool → AcceptedTable → List Row → AcceptedTable
-added_to anew held rows = record { name = held.name; rows = held.rows ++ rows; image = image_with anew held.image rows }
+abbrev pub added_to : Growth → AcceptedTable → List Row → AcceptedTable
+added_to growth held rows = record { name = held.name; rows = held.rows ++ rows; image = image_with growth held.image rows }
 
 -- the tables with a batch in one of them, and the number of its rows
-abbrev pub add_rows : Limits → Bool → Tables → AcceptedTable → Result (List Row) Refusal → Result (Tables × ℕ) Refusal
-add_rows limits anew tables held (Err why) = Err why
-add_rows limits anew tables held (Ok rows) = unless (first_of (add_refusals limits held rows)) (with_table tables (added_to anew held rows), length rows)
+abbrev pub add_rows : Limits → Growth → Tables → AcceptedTable → Result (List Row) Refusal → Result (Tables × ℕ) Refusal
+add_rows limits growth tables held (Err why) = Err why
+add_rows limits growth tables held (Ok rows) = unless (first_of (add_refusals limits held rows)) (with_table tables (added_to growth held rows), length rows)
 
 -- a batch for the table that a name has
-abbrev pub add_found : Limits → Bool → Tables → List ℕ → (Schema → Result (List Row) Refusal) → Option AcceptedTable → Result (Tables × ℕ) Refusal
-add_found limits anew tables name batch None = Err (refusal.UnknownTable name)
-add_found limits anew tables name batch (Some held) = add_rows limits anew tables held (batch held.image.schema)
+abbrev pub add_found : Limits → Growth → Tables → List ℕ → (Schema → Result (List Row) Refusal) → Option AcceptedTable → Result (Tables × ℕ) Refusal
+add_found limits growth tables name batch None = Err (refusal.UnknownTable name)
+add_found limits growth tables name batch (Some held) = add_rows limits growth tables held (batch held.image.schema)
 
 -- LOAD adds rows and lays all out anew; APPEND and INSERT add them to the standing layout: the table first, then the batch, then what is refused of it
-abbrev pub added : Limits → Bool → Tables → List ℕ → (Schema → Result (List Row) Refusal) → Result (Tables × ℕ) Refusal
-added limits anew tables name batch = add_found limits anew tables name batch (find_table tables name)
+abbrev pub added : Limits → Growth → Tables → List ℕ → (Schema → Result (List Row) Refusal) → Result (Tables × ℕ) Refusal
+added limits growth tables name batch = add_found limits growth tables name batch (find_table tables name)
 
 -- REORGANIZE of the table that a name has
 abbrev pub reorganize_found : Tables → List ℕ → Option AcceptedTable → Result Tables Refusal

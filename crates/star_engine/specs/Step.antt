@@ -15,6 +15,8 @@ use Rattle.star_engine.specs.State.{Tables, State, has_table}
 use Rattle.star_engine.specs.Changes.{created, dropped, added, reorganized}
 use Rattle.star_engine.specs.TableLayout.{described}
 use Rattle.star_engine.specs.InsertedRows.{written}
+use Rattle.star_engine.specs.declared.growth.Growth.{Growth}
+use Rattle.star_engine.specs.declared.growth.Growth.TheVariants.{Anew, Standing}
 use Rattle.blink_base.specs.declared.limits.TheConstants.{LONGEST_CSV}
 
 -- what a statement leaves, what it prints, and whether it was refused
@@ -66,16 +68,16 @@ batch_of (Ok bytes) schema = loaded bytes schema
 batch_of (Err why) schema = Err why
 
 -- LOAD and APPEND: the table first, then the file, then its rows, then what is refused of them
-abbrev pub add_file : Limits → Bool → State → List ℕ → List ℕ → Outcome
-add_file limits anew state name file = addition state (added limits anew state.tables name (batch_of (fetched LONGEST_CSV (state.files file))))
+abbrev pub add_file : Limits → Growth → State → List ℕ → List ℕ → Outcome
+add_file limits growth state name file = addition state (added limits growth state.tables name (batch_of (fetched LONGEST_CSV (state.files file))))
 
 -- the outcome of a statement; queries and table files are not built
 abbrev pub statement_step : Limits → State → Statement → Outcome
 statement_step limits state (statement.Create name columns) = change state (created_bytes name) (created state.tables name columns)
 statement_step limits state (statement.Drop name) = change state (dropped_bytes name) (dropped state.tables name)
-statement_step limits state (statement.Load name file) = add_file limits true state name file
-statement_step limits state (statement.Append name file) = add_file limits false state name file
-statement_step limits state (statement.Insert name rows) = addition state (added limits false state.tables name (λ schema. written schema rows))
+statement_step limits state (statement.Load name file) = add_file limits Anew state name file
+statement_step limits state (statement.Append name file) = add_file limits Standing state name file
+statement_step limits state (statement.Insert name rows) = addition state (added limits Standing state.tables name (λ schema. written schema rows))
 statement_step limits state (statement.Reorganize name) = change state (reorganized_bytes name) (reorganized state.tables name)
 statement_step limits state (statement.Select s) = refuse state refusal.NotBuilt
 statement_step limits state (statement.Describe name) = description state (described state.tables name)

@@ -1,5 +1,5 @@
 // The tables by name.
-ghost use Rattle.std.specs.Prelude.{◌≡◌, ◌≢◌, ◌≤◌, ◌<◌, ℕ, [], true, false, None, Some, IsTrue, IfOk, OnErr, MatchResult, find, position, length, slice_index_or as get_or};
+ghost use Rattle.std.specs.Prelude.{◌≡◌, ◌≢◌, ◌≤◌, ◌<◌, ℕ, [], None, Some, IsTrue, IfOk, OnErr, MatchResult, find, position, length, nat_le, slice_index_or as get_or};
 ghost use Rattle.std.specs.List.{list_all};
 ghost use Rattle.std.specs.Option.{option_copied, option_map};
 ghost use Rattle.std.specs.Str.{bytes_eq};
@@ -15,7 +15,7 @@ ghost use Rattle.star_engine.specs.EngineRepr.{table_of, IsEngineOf, HasTables, 
 ghost use Rattle.star_engine.specs.Soundness.{AreLimits};
 ghost use Rattle.star_engine.specs.InsertedRows.{written};
 
-use crate::EngineError;
+use crate::{EngineError, Growth};
 use crate::batch::{Source, rows_from};
 use crate::columns::{are_bad_columns, schema_of};
 use crate::table::{Table, add_at, place_of, remove_at};
@@ -95,6 +95,13 @@ impl<M: Ledger> Engine<M> {
         place_of(self.tables.as_slice(), name.as_str())
     }
 
+    // Whether there are as many tables as there may be.
+    fn is_full(&self) -> bool
+        ensures { result ≡ nat_le MOST_TABLES (length self.now.tables) }
+    {
+        self.tables.len() >= MOST_TABLES
+    }
+
     /// The first table of this name; None without one. It takes no memory. Source: this project's own.
     pub fn find(&self, name: &str) -> Option<&Table<M>>
         ensures first { option_copied result ≡ find (λ table. bytes_eq name.now table.name) self.now.tables }
@@ -116,7 +123,7 @@ impl<M: Ledger> Engine<M> {
         if at.is_some() {
             return Err(exists(alloc, name));
         }
-        if self.tables.len() >= MOST_TABLES {
+        if self.is_full() {
             return Err(EngineError::Refused(Refusal::TooManyTables));
         }
         Ok(())
@@ -148,7 +155,7 @@ impl<M: Ledger> Engine<M> {
         if are_bad_columns(columns.as_slice()) {
             return Err(EngineError::Refused(Refusal::BadColumns));
         }
-        if self.tables.len() >= MOST_TABLES {
+        if self.is_full() {
             return Err(EngineError::Refused(Refusal::TooManyTables));
         }
         let schema = schema_of(alloc, columns.as_slice())?;
@@ -184,22 +191,22 @@ impl<M: Ledger> Engine<M> {
         alloc: Global,
         name: &Word,
         source: Source<'_>,
-        anew: bool,
+        growth: Growth,
         decodes: &mut Steps<M>,
     ) -> Result<u64, EngineError>
         requires sound { HasTables self.old }
         requires good { IsGood source }
-        ensures step { (tables : Tables) → IsEngineOf tables self.old → IsAddition result (added self.old.limits anew tables name.now (batch_in source.entry)) self.new }
+        ensures step { (tables : Tables) → IsEngineOf tables self.old → IsAddition result (added self.old.limits growth tables name.now (batch_in source.entry)) self.new }
         ensures sound { HasTables self.new }
         ensures limits { self.new.limits ≡ self.old.limits }
         ensures kept { OnErr result (self.new ≡ self.old) }
-        ensures decodes { anew ≡ false → IsKeyless self.old name.now → decodes.new ≡ decodes.old }
+        ensures decodes { growth ≡ Growth.Standing → IsKeyless self.old name.now → decodes.new ≡ decodes.old }
     {
         match self.place(name) {
             Some(at) => {
                 let batch = rows_at(alloc, self.tables.as_slice(), at, source)?;
                 let limit = self.limits.rows;
-                add_at(alloc, &mut self.tables, at, anew, limit, &batch, decodes)?;
+                add_at(alloc, &mut self.tables, at, growth, limit, &batch, decodes)?;
                 Ok(batch.len() as u64)
             }
             None => Err(unknown(alloc, name)),
@@ -224,12 +231,12 @@ impl<M: Ledger> Engine<M> {
         decodes: &mut Steps<M>,
     ) -> Result<u64, EngineError>
         requires { HasTables self.old }
-        ensures step { (tables : Tables) → IsEngineOf tables self.old → IsAddition result (added self.old.limits true tables name.now (loaded bytes.now)) self.new }
+        ensures step { (tables : Tables) → IsEngineOf tables self.old → IsAddition result (added self.old.limits Growth.Anew tables name.now (loaded bytes.now)) self.new }
         ensures sound { HasTables self.new }
         ensures limits { self.new.limits ≡ self.old.limits }
         ensures kept { OnErr result (self.new ≡ self.old) }
     {
-        self.add(alloc, name, Source::Text(bytes), true, decodes)
+        self.add(alloc, name, Source::Text(bytes), Growth::Anew, decodes)
     }
 
     /// Adds the rows of a CSV text to the standing layout of a table. APPEND. It answers the number of rows that were added.
@@ -245,13 +252,13 @@ impl<M: Ledger> Engine<M> {
         decodes: &mut Steps<M>,
     ) -> Result<u64, EngineError>
         requires { HasTables self.old }
-        ensures step { (tables : Tables) → IsEngineOf tables self.old → IsAddition result (added self.old.limits false tables name.now (loaded bytes.now)) self.new }
+        ensures step { (tables : Tables) → IsEngineOf tables self.old → IsAddition result (added self.old.limits Growth.Standing tables name.now (loaded bytes.now)) self.new }
         ensures sound { HasTables self.new }
         ensures limits { self.new.limits ≡ self.old.limits }
         ensures kept { OnErr result (self.new ≡ self.old) }
         ensures decodes { IsKeyless self.old name.now → decodes.new ≡ decodes.old }
     {
-        self.add(alloc, name, Source::Text(bytes), false, decodes)
+        self.add(alloc, name, Source::Text(bytes), Growth::Standing, decodes)
     }
 
     /// Adds written rows to the standing layout of a table. INSERT. It answers the number of rows that were added.
@@ -272,13 +279,13 @@ impl<M: Ledger> Engine<M> {
     ) -> Result<u64, EngineError>
         requires sound { HasTables self.old }
         requires formed { IsTrue (is_well_formed (statement.Insert name.now rows.now)) }
-        ensures step { (tables : Tables) → IsEngineOf tables self.old → IsAddition result (added self.old.limits false tables name.now (λ schema. written schema rows.now)) self.new }
+        ensures step { (tables : Tables) → IsEngineOf tables self.old → IsAddition result (added self.old.limits Growth.Standing tables name.now (λ schema. written schema rows.now)) self.new }
         ensures sound { HasTables self.new }
         ensures limits { self.new.limits ≡ self.old.limits }
         ensures kept { OnErr result (self.new ≡ self.old) }
         ensures decodes { IsKeyless self.old name.now → decodes.new ≡ decodes.old }
     {
-        self.add(alloc, name, Source::Written(rows), false, decodes)
+        self.add(alloc, name, Source::Written(rows), Growth::Standing, decodes)
     }
 
     /// Lays the rows of a table's image out anew. REORGANIZE TABLE.
@@ -301,7 +308,7 @@ impl<M: Ledger> Engine<M> {
             Some(at) => {
                 let limit = self.limits.rows;
                 let batch = List::new(alloc);
-                add_at(alloc, &mut self.tables, at, true, limit, &batch, decodes)?;
+                add_at(alloc, &mut self.tables, at, Growth::Anew, limit, &batch, decodes)?;
                 Ok(())
             }
             None => Err(unknown(alloc, name)),

@@ -11,9 +11,11 @@ mod describe;
 mod engine;
 pub mod examples;
 mod fault;
+mod growth;
 mod table;
 mod written;
 
 pub use engine::Engine;
 pub use fault::EngineError;
+pub use growth::Growth;
 pub use table::Table;

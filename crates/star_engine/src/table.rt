@@ -1,5 +1,5 @@
 // A table of the engine, and the rows that are added to it.
-ghost use Rattle.std.specs.Prelude.{◌≡◌, ◌<◌, ◌≤◌, ◌++◌, IsTrue, OnOk, OnErr, None, false, length, position, slice_index_or as get_or, slice_set};
+ghost use Rattle.std.specs.Prelude.{◌≡◌, ◌<◌, ◌≤◌, ◌++◌, IsTrue, OnOk, OnErr, None, length, position, slice_index_or as get_or, slice_set};
 ghost use Rattle.std.specs.List.{list_all, remove};
 ghost use Rattle.std.specs.Str.{bytes_eq};
 ghost use Rattle.blink_base.specs.RowFits.{fits};
@@ -8,6 +8,7 @@ ghost use Rattle.cell_layout.specs.Valid.{is_valid};
 ghost use Rattle.blink_lists.specs.declared.limits.TheConstants.{MOST_ROWS};
 ghost use Rattle.star_engine.specs.AddRows.{IsAdded, IsAddedAt};
 
+use crate::Growth;
 use blink_base::{List, Row, Word};
 use cell_layout::{Image, LayoutError};
 use std::alloc::Global;
@@ -33,7 +34,7 @@ pub(crate) fn place_of<M: Ledger>(tables: &[Table<M>], name: &str) -> Option<usi
 fn add<M: Ledger>(
     alloc: Global,
     table: &mut Table<M>,
-    anew: bool,
+    growth: Growth,
     limit: u64,
     batch: &List<Row>,
     decodes: &mut Steps<M>,
@@ -41,16 +42,17 @@ fn add<M: Ledger>(
     requires valid { IsTrue (is_valid table.old.image) }
     requires limit { limit ≤ MOST_ROWS }
     requires fit { IsTrue (list_all (fits table.old.image.schema) batch.now) }
-    ensures added { OnOk result (IsAdded anew table.old table.new batch.now) }
+    ensures added { OnOk result (IsAdded growth table.old table.new batch.now) }
     ensures refused { IsRefusal result (refusal_of limit table.old.image batch.now) }
     ensures kept { OnErr result (table.new ≡ table.old) }
-    ensures decodes { anew ≡ false → table.old.image.schema.key ≡ None → decodes.new ≡ decodes.old }
+    ensures decodes { growth ≡ Growth.Standing → table.old.image.schema.key ≡ None → decodes.new ≡ decodes.old }
 {
-    if anew {
-        table.image = table.image.relaid(alloc, limit, batch, decodes)?;
-        Ok(())
-    } else {
-        table.image.append(alloc, limit, batch, decodes)
+    match growth {
+        Growth::Anew => {
+            table.image = table.image.relaid(alloc, limit, batch, decodes)?;
+            Ok(())
+        }
+        Growth::Standing => table.image.append(alloc, limit, batch, decodes),
     }
 }
 
@@ -59,7 +61,7 @@ pub(crate) fn add_at<M: Ledger>(
     alloc: Global,
     tables: &mut List<Table<M>>,
     at: usize,
-    anew: bool,
+    growth: Growth,
     limit: u64,
     batch: &List<Row>,
     decodes: &mut Steps<M>,
@@ -68,13 +70,13 @@ pub(crate) fn add_at<M: Ledger>(
     requires valid { (d : Table M) → IsTrue (is_valid (get_or tables.old at d).image) }
     requires limit { limit ≤ MOST_ROWS }
     requires fit { (d : Table M) → IsTrue (list_all (fits (get_or tables.old at d).image.schema) batch.now) }
-    ensures added { OnOk result ((d : Table M) → IsAddedAt anew tables.old tables.new at batch.now d) }
+    ensures added { OnOk result ((d : Table M) → IsAddedAt growth tables.old tables.new at batch.now d) }
     ensures refused { (d : Table M) → IsRefusal result (refusal_of limit (get_or tables.old at d).image batch.now) }
     ensures kept { OnErr result (tables.new ≡ tables.old) }
-    ensures decodes { anew ≡ false → ((d : Table M) → (get_or tables.old at d).image.schema.key ≡ None) → decodes.new ≡ decodes.old }
+    ensures decodes { growth ≡ Growth.Standing → ((d : Table M) → (get_or tables.old at d).image.schema.key ≡ None) → decodes.new ≡ decodes.old }
 {
     match tables.get_mut(at) {
-        Some(table) => add(alloc, table, anew, limit, batch, decodes),
+        Some(table) => add(alloc, table, growth, limit, batch, decodes),
         None => unreachable!(),
     }
 }

@@ -13,7 +13,7 @@ pub returns-in_err-batch-in-Some-clause-step : goal.returns-in_err-batch-in-Some
 returns-in_err-batch-in-Some-clause-step g c = λ tables of.
     let p = err_from_is_err_and c.from_residual.result c.from_residual.ensures.1 in
     rw (p.1, p.2)
-    (unread_there tables c.args.self.now c.args.name.now of c.in-Some.at (sym c.in-Some.ensures) c.args.anew (batch_in c.args.source) _ (rw c.as_slice.ensures at c.in_err-batch-in-Some.ensures.rows))
+    (unread_there tables c.args.self.now c.args.name.now of c.in-Some.at (sym c.in-Some.ensures) c.args.growth (batch_in c.args.source) _ (rw c.as_slice.ensures at c.in_err-batch-in-Some.ensures.rows))
 
 pub add_at-requires-clause-valid : goal.add_at-requires-clause-valid
 add_at-requires-clause-valid g c = valid_at c.args.self.now c.args.name.now c.in-Some.at c.requires.sound (sym c.in-Some.ensures)
@@ -23,7 +23,7 @@ returns-in_err-add_at-in-Some-clause-step g c = λ tables of.
     let r = c.from_residual-in_err-add_at-in-Some in
     let p = err_from_is_err_and r.result r.ensures.1 in
     rw (p.1, p.2)
-    (refused_there tables c.args.self.now c.args.name.now of c.in-Some.at (sym c.in-Some.ensures) c.args.anew (batch_in c.args.source) c.in_ok-batch-in-Some.batch _
+    (refused_there tables c.args.self.now c.args.name.now of c.in-Some.at (sym c.in-Some.ensures) c.args.growth (batch_in c.args.source) c.in_ok-batch-in-Some.batch _
     (rw c.as_slice.ensures at c.in_ok-batch-in-Some.ensures.rows) c.in_err-add_at-in-Some.ensures.refused)
 
 pub returns-in_err-add_at-in-Some-clause-decodes : goal.returns-in_err-add_at-in-Some-clause-decodes
@@ -34,15 +34,15 @@ returns-in_ok-add_at-in-Some-clause-decodes g c = λ behind keyless. c.add_at.en
 
 pub returns-in_ok-add_at-in-Some-clause-step : goal.returns-in_ok-add_at-in-Some-clause-step
 returns-in_ok-add_at-in-Some-clause-step g c = λ tables of.
-    made_there tables c.args.self.now c.args.name.now of c.in-Some.at (sym c.in-Some.ensures) c.args.anew (batch_in c.args.source) c.in_ok-batch-in-Some.batch c.add_at.new.tables c.len.result c.len.ensures
+    made_there tables c.args.self.now c.args.name.now of c.in-Some.at (sym c.in-Some.ensures) c.args.growth (batch_in c.args.source) c.in_ok-batch-in-Some.batch c.add_at.new.tables c.len.result c.len.ensures
     (rw c.as_slice.ensures at c.in_ok-batch-in-Some.ensures.rows) c.in_ok-add_at-in-Some.ensures.refused c.in_ok-add_at-in-Some.ensures.added
 
 pub returns-in_ok-add_at-in-Some-clause-sound : goal.returns-in_ok-add_at-in-Some-clause-sound
 returns-in_ok-add_at-in-Some-clause-sound g c =
     sound_made_with _ _ _
-    (made_there c.requires.sound.0 c.args.self.now c.args.name.now c.requires.sound.1 c.in-Some.at (sym c.in-Some.ensures) c.args.anew (batch_in c.args.source) c.in_ok-batch-in-Some.batch c.add_at.new.tables c.len.result c.len.ensures
+    (made_there c.requires.sound.0 c.args.self.now c.args.name.now c.requires.sound.1 c.in-Some.at (sym c.in-Some.ensures) c.args.growth (batch_in c.args.source) c.in_ok-batch-in-Some.batch c.add_at.new.tables c.len.result c.len.ensures
     (rw c.as_slice.ensures at c.in_ok-batch-in-Some.ensures.rows) c.in_ok-add_at-in-Some.ensures.refused c.in_ok-add_at-in-Some.ensures.added)
 
 pub returns-in-None-clause-step : goal.returns-in-None-clause-step
 returns-in-None-clause-step g c = λ tables of.
-    cause_from c.unknown.result (refusal.UnknownTable c.args.name.now) _ c.unknown.ensures (no_add tables c.args.self.now c.args.name.now of c.args.anew (batch_in c.args.source) (sym c.in-None.ensures))
+    cause_from c.unknown.result (refusal.UnknownTable c.args.name.now) _ c.unknown.ensures (no_add tables c.args.self.now c.args.name.now of c.args.growth (batch_in c.args.source) (sym c.in-None.ensures))

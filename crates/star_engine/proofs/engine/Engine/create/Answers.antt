@@ -1,5 +1,5 @@
 use Rattle.std.proofs.Common.{◌∙◌, [], ◌∷◌, ◌++◌, sym, ap, true, false, is_some, arith}
-use Rattle.std.proofs.lemmas.Bool.{and_parts}
+use Rattle.std.proofs.lemmas.Bool.{and_parts, leb-true, leb-false}
 use Rattle.blink_base.specs.declared.refusal.Refusal.TheVariants as refusal
 use Rattle.blink_base.specs.Identifiers.{is_name}
 use Rattle.cell_layout.specs.Layout.{empty_image}
@@ -21,11 +21,11 @@ returns-then-are_bad_columns-clause-step g c = λ tables of.
     create_bad tables c.args.self.now c.args.name.now of c.args.columns.now (there tables c.args.self.now c.args.name.now of false (c.if-is_some.ensures ∙ ap is_some c.place.ensures))
     (sym (ap are_bad_columns c.as_slice.ensures) ∙ sym c.if-are_bad_columns.ensures)
 
-pub returns-then-len-ge-MOST_TABLES-clause-step : goal.returns-then-len-ge-MOST_TABLES-clause-step
-returns-then-len-ge-MOST_TABLES-clause-step g c = λ tables of.
+pub returns-then-is_full-clause-step : goal.returns-then-is_full-clause-step
+returns-then-is_full-clause-step g c = λ tables of.
     create_full tables c.args.self.now c.args.name.now of c.args.columns.now (there tables c.args.self.now c.args.name.now of false (c.if-is_some.ensures ∙ ap is_some c.place.ensures))
     (sym (ap are_bad_columns c.as_slice.ensures) ∙ sym c.if-are_bad_columns.ensures)
-    (is_full tables c.args.self.now c.args.name.now of (let long = c.len.ensures in let many = c.if-len-ge-MOST_TABLES.true in omega arith))
+    (is_full tables c.args.self.now c.args.name.now of (leb-true _ _ (sym c.if-is_full.ensures)))
 
 pub empty-requires : goal.empty-requires
 empty-requires g c =
@@ -38,7 +38,7 @@ returns-clause-step g c = λ tables of.
     create_made tables c.args.self.now c.args.name.now of c.args.columns.now c.in_ok-image.image c.push.new.self
     (there tables c.args.self.now c.args.name.now of false (c.if-is_some.ensures ∙ ap is_some c.place.ensures))
     (sym (ap are_bad_columns c.as_slice.ensures) ∙ sym c.if-are_bad_columns.ensures)
-    (let long = c.len.ensures in let few = c.if-len-ge-MOST_TABLES.false in omega arith)
+    (leb-false _ _ (sym c.if-is_full.ensures))
     (c.in_ok-image.ensures.empty ∙ ap empty_image (c.in_ok-schema.ensures ∙ ap schema_of c.as_slice-2.ensures))
     c.in_ok-image.ensures.valid
     (c.in_ok-push.ensures.ok ∙ (λ i. c.args.self.now.tables ++ record { name = c.in_ok-name.ensures i; image = c.in_ok-image.image } ∷ []))
@@ -49,7 +49,7 @@ returns-clause-sound g c =
     (create_made c.requires.sound.0 c.args.self.now c.args.name.now c.requires.sound.1 c.args.columns.now c.in_ok-image.image c.push.new.self
     (there c.requires.sound.0 c.args.self.now c.args.name.now c.requires.sound.1 false (c.if-is_some.ensures ∙ ap is_some c.place.ensures))
     (sym (ap are_bad_columns c.as_slice.ensures) ∙ sym c.if-are_bad_columns.ensures)
-    (let long = c.len.ensures in let few = c.if-len-ge-MOST_TABLES.false in omega arith)
+    (leb-false _ _ (sym c.if-is_full.ensures))
     (c.in_ok-image.ensures.empty ∙ ap empty_image (c.in_ok-schema.ensures ∙ ap schema_of c.as_slice-2.ensures))
     c.in_ok-image.ensures.valid
     (c.in_ok-push.ensures.ok ∙ (λ i. c.args.self.now.tables ++ record { name = c.in_ok-name.ensures i; image = c.in_ok-image.image } ∷ [])))

@@ -1,4 +1,5 @@
-use Rattle.std.proofs.Common.{◌∙◌, ap, true, false, is_some, arith}
+use Rattle.std.proofs.Common.{◌∙◌, sym, ap, true, false, is_some}
+use Rattle.std.proofs.lemmas.Bool.{leb-true, leb-false}
 use Rattle.blink_base.specs.declared.refusal.Refusal.TheVariants as refusal
 use Rattle.star_engine.proofs.RefusalLemmas.{cause_from}
 use Rattle.star_engine.proofs.StepLemmas.{there, room_exists, room_full, room_there, is_full, has_room}
@@ -9,12 +10,12 @@ returns-then-is_some g c = λ tables of.
     cause_from c.exists.result (refusal.TableExists c.args.name.now) _ c.exists.ensures
     (room_exists tables c.args.self.now c.args.name.now of (there tables c.args.self.now c.args.name.now of true (c.if-is_some.ensures ∙ ap is_some c.place-at.ensures)))
 
-pub returns-then-len-ge-MOST_TABLES : goal.returns-then-len-ge-MOST_TABLES
-returns-then-len-ge-MOST_TABLES g c = λ tables of.
+pub returns-then-is_full : goal.returns-then-is_full
+returns-then-is_full g c = λ tables of.
     room_full tables c.args.self.now c.args.name.now of (there tables c.args.self.now c.args.name.now of false (c.if-is_some.ensures ∙ ap is_some c.place-at.ensures))
-    (is_full tables c.args.self.now c.args.name.now of (let long = c.len.ensures in let many = c.if-len-ge-MOST_TABLES.true in omega arith))
+    (is_full tables c.args.self.now c.args.name.now of (leb-true _ _ (sym c.if-is_full.ensures)))
 
 pub returns : goal.returns
 returns g c = λ tables of.
     room_there tables c.args.self.now c.args.name.now of (there tables c.args.self.now c.args.name.now of false (c.if-is_some.ensures ∙ ap is_some c.place-at.ensures))
-    (has_room tables c.args.self.now c.args.name.now of (let long = c.len.ensures in let few = c.if-len-ge-MOST_TABLES.false in omega arith))
+    (has_room tables c.args.self.now c.args.name.now of (leb-false _ _ (sym c.if-is_full.ensures)))
