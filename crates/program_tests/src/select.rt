@@ -2,7 +2,8 @@
 use crate::sql::{shown, tokens_of};
 use blink_base::Word;
 use star_sql::{
-    ColumnName, Cond, Expr, Item, Literal, OrderKey, Primary, Select, Statement, TestWords, What, parse,
+    ColumnName, Cond, Expr, Item, Literal, OrderKey, Primary, Select, Statement, TestWords, What,
+    parse,
 };
 use std::alloc::{AllocError, Global};
 use std::test::Fail;

@@ -85,22 +85,17 @@ fn aggregate<'a>(
 fn what(alloc: Global, tokens: &[Token]) -> Result<(What, &[Token]), ParseFault>
     ensures { Gives (λ x. (x.0, kinds_of x.1.now)) result (what_at (kinds_of tokens.now)) }
 {
-    match tokens {
-        [
-            Token {
-                kind: TokenKind::Name(word),
-                ..
-            },
-            behind @ ..,
-        ] => {
-            if found_mark(Mark::Left, behind).is_some() {
-                return aggregate(alloc, word.as_str(), behind);
-            }
-            let (column, rest) = ColumnName::parse(alloc, tokens)?;
-            Ok((What::Column(column), rest))
-        }
-        _ => Err(ParseFault::Syntax),
+    let [token, behind @ ..] = tokens else {
+        return Err(ParseFault::Syntax);
+    };
+    let TokenKind::Name(word) = &token.kind else {
+        return Err(ParseFault::Syntax);
+    };
+    if found_mark(Mark::Left, behind).is_some() {
+        return aggregate(alloc, word.as_str(), behind);
     }
+    let (column, rest) = ColumnName::parse(alloc, tokens)?;
+    Ok((What::Column(column), rest))
 }
 
 impl Parse for Item {

@@ -14,21 +14,13 @@ use std::alloc::Global;
 fn number(minus: bool, tokens: &[Token]) -> Result<(Literal, &[Token]), ParseFault>
     ensures { Gives (λ x. (x.0, kinds_of x.1.now)) result (number_at minus (kinds_of tokens.now)) }
 {
-    match tokens {
-        [
-            Token {
-                kind: TokenKind::Number(value),
-                ..
-            },
-            rest @ ..,
-        ] if 0 <= *value && *value < NUMBER_BOUND => {
-            Ok((
-                Literal::Number {
-                    minus,
-                    value: *value,
-                },
-                rest,
-            ))
+    let [token, rest @ ..] = tokens else {
+        return Err(ParseFault::Syntax);
+    };
+    match &token.kind {
+        TokenKind::Number(value) if 0 <= *value && *value < NUMBER_BOUND => {
+            let value = *value;
+            Ok((Literal::Number { minus, value }, rest))
         }
         _ => Err(ParseFault::Syntax),
     }
@@ -47,29 +39,20 @@ fn date(alloc: Global, tokens: &[Token]) -> Result<(Literal, &[Token]), ParseFau
 fn plain(alloc: Global, tokens: &[Token]) -> Result<(Literal, &[Token]), ParseFault>
     ensures { Gives (λ x. (x.0, kinds_of x.1.now)) result (plain_at (kinds_of tokens.now)) }
 {
-    match tokens {
-        [
-            Token {
-                kind: TokenKind::Number(_),
-                ..
-            },
-            ..
-        ] => number(false, tokens),
-        [
-            Token {
-                kind: TokenKind::Text(word),
-                ..
-            },
-            rest @ ..,
-        ] => Ok((Literal::Text(word.copy(alloc)?), rest)),
-        [
-            Token {
-                kind: TokenKind::Name(word),
-                ..
-            },
-            rest @ ..,
-        ] if word.as_str() == "date" => date(alloc, rest),
-        _ => Err(ParseFault::Syntax),
+    let [token, rest @ ..] = tokens else {
+        return Err(ParseFault::Syntax);
+    };
+    match &token.kind {
+        TokenKind::Name(word) => {
+            if word.as_str() == "date" {
+                date(alloc, rest)
+            } else {
+                Err(ParseFault::Syntax)
+            }
+        }
+        TokenKind::Number(_) => number(false, tokens),
+        TokenKind::Text(word) => Ok((Literal::Text(word.copy(alloc)?), rest)),
+        TokenKind::Symbol(_) => Err(ParseFault::Syntax),
     }
 }
 
@@ -105,14 +88,13 @@ impl Parse for u64 {
 
     #[tactic(auto, unfolding(crate::specs::Parsers::limit_at))]
     fn parse(_alloc: Global, tokens: &[Token]) -> Result<(u64, &[Token]), ParseFault> {
-        match tokens {
-            [
-                Token {
-                    kind: TokenKind::Number(value),
-                    ..
-                },
-                rest @ ..,
-            ] if 0 <= *value && *value < NUMBER_BOUND => Ok((*value as u64, rest)),
+        let [token, rest @ ..] = tokens else {
+            return Err(ParseFault::Syntax);
+        };
+        match &token.kind {
+            TokenKind::Number(value) if 0 <= *value && *value < NUMBER_BOUND => {
+                Ok((*value as u64, rest))
+            }
             _ => Err(ParseFault::Syntax),
         }
     }

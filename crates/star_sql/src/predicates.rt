@@ -100,21 +100,12 @@ fn tested(
 ) -> Result<(TestWords, &[Token]), ParseFault>
     ensures { Gives (λ x. (x.0, kinds_of x.1.now)) result (tested_at column (kinds_of tokens.now)) }
 {
-    match tokens {
-        [
-            Token {
-                kind: TokenKind::Name(word),
-                ..
-            },
-            rest @ ..,
-        ] => worded(alloc, column, word.as_str(), rest),
-        [
-            Token {
-                kind: TokenKind::Symbol(mark),
-                ..
-            },
-            rest @ ..,
-        ] => match op_of(*mark) {
+    let [token, rest @ ..] = tokens else {
+        return Err(ParseFault::Syntax);
+    };
+    match &token.kind {
+        TokenKind::Name(word) => worded(alloc, column, word.as_str(), rest),
+        TokenKind::Symbol(mark) => match op_of(*mark) {
             Some(op) => compared(alloc, column, op, rest),
             None => Err(ParseFault::Syntax),
         },

@@ -129,14 +129,11 @@ pub(crate) fn statement(
 ) -> Result<(Statement, &[Token]), ParseFault>
     ensures { Gives (λ x. (x.0, kinds_of x.1.now)) result (statement_at (kinds_of tokens.now)) }
 {
-    match tokens {
-        [
-            Token {
-                kind: TokenKind::Name(verb),
-                ..
-            },
-            rest @ ..,
-        ] => behind_word(alloc, verb.as_str(), rest),
+    let [token, rest @ ..] = tokens else {
+        return Err(ParseFault::Syntax);
+    };
+    match &token.kind {
+        TokenKind::Name(verb) => behind_word(alloc, verb.as_str(), rest),
         _ => Err(ParseFault::Syntax),
     }
 }

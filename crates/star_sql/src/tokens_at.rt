@@ -68,14 +68,11 @@ impl Parse for Word {
 
     #[tactic(auto, unfolding(crate::specs::Parsers::name_at))]
     fn parse(alloc: Global, tokens: &[Token]) -> Result<(Word, &[Token]), ParseFault> {
-        match tokens {
-            [
-                Token {
-                    kind: TokenKind::Name(word),
-                    ..
-                },
-                rest @ ..,
-            ] if is_name(word.as_str()) => { Ok((word.copy(alloc)?, rest)) }
+        let [token, rest @ ..] = tokens else {
+            return Err(ParseFault::Syntax);
+        };
+        match &token.kind {
+            TokenKind::Name(word) if is_name(word.as_str()) => Ok((word.copy(alloc)?, rest)),
             _ => Err(ParseFault::Syntax),
         }
     }
@@ -85,14 +82,11 @@ impl Parse for Word {
 pub(crate) fn text(alloc: Global, tokens: &[Token]) -> Result<(Word, &[Token]), ParseFault>
     ensures { Gives (λ x. (x.0, kinds_of x.1.now)) result (text_at (kinds_of tokens.now)) }
 {
-    match tokens {
-        [
-            Token {
-                kind: TokenKind::Text(word),
-                ..
-            },
-            rest @ ..,
-        ] => Ok((word.copy(alloc)?, rest)),
+    let [token, rest @ ..] = tokens else {
+        return Err(ParseFault::Syntax);
+    };
+    match &token.kind {
+        TokenKind::Text(word) => Ok((word.copy(alloc)?, rest)),
         _ => Err(ParseFault::Syntax),
     }
 }
@@ -101,14 +95,11 @@ pub(crate) fn text(alloc: Global, tokens: &[Token]) -> Result<(Word, &[Token]), 
 pub(crate) fn kind(tokens: &[Token]) -> Result<(Kind, &[Token]), ParseFault>
     ensures { Gives (λ x. (x.0, kinds_of x.1.now)) result (kind_at (kinds_of tokens.now)) }
 {
-    match tokens {
-        [
-            Token {
-                kind: TokenKind::Name(word),
-                ..
-            },
-            rest @ ..,
-        ] => match kind_of_word(word.as_str()) {
+    let [token, rest @ ..] = tokens else {
+        return Err(ParseFault::Syntax);
+    };
+    match &token.kind {
+        TokenKind::Name(word) => match kind_of_word(word.as_str()) {
             Some(kind) => Ok((kind, rest)),
             None => Err(ParseFault::Syntax),
         },
