@@ -12,21 +12,6 @@ use Rattle.star_lex.specs.declared.token.TokenKind.TheVariants as token
 use Rattle.star_lex.specs.declared.token.LexFault.TheVariants as fault
 use Rattle.star_lex.specs.Forms.{unpaired, inside, content_of, a_text}
 
--- bytes that are UTF-8 are a text, and others not
-pub text_yes : (bytes : List ℕ) → IsUtf8 bytes → is_text bytes ≡ true
-text_yes bytes u = or_right (list_all is_ascii bytes) (is_utf8 bytes) (is_utf8-from_IsUtf8 bytes u)
-
-below : (bytes : List ℕ) → list_all is_ascii bytes ≡ true → (i : ℕ) → get_or bytes i 0 < 128
-below [] all i = omega arith
-below (b ∷ rest) all zero = ltb-true b 128 (and_parts (is_ascii b) (list_all is_ascii rest) all).0
-below (b ∷ rest) all (suc i) = below rest (and_parts (is_ascii b) (list_all is_ascii rest) all).1 i
-
-pub text_no : (bytes : List ℕ) → (IsUtf8 bytes → ⊥) → is_text bytes ≡ false
-text_no bytes never =
-    or_from (list_all is_ascii bytes) (is_utf8 bytes)
-    (false_from_ne_true _ (λ all. never (IsUtf8-from_ascii bytes (below bytes all))))
-    (false_from_ne_true _ (λ is. never (IsUtf8-from_is_utf8 bytes is)))
-
 name_high : (b : ℕ) → is_name_byte b ≡ true → b < 123
 name_high b h = elim (or_cases (begins_name b) (is_ascii_digit b) h) [
   | inl e ↦ elim (or_cases (is_ascii_lowercase b || is_ascii_uppercase b) (eqb b 95) e) [

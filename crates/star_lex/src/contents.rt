@@ -15,16 +15,6 @@ use crate::{LexFault, TokenKind};
 use blink_base::Word;
 use std::alloc::{AllocError, Global};
 
-// The bytes as a word, where they are a text.
-fn word_of(alloc: Global, bytes: &[u8]) -> Result<Option<Word>, AllocError>
-    ensures { IfOk result (λ word. word ≡ (if is_text bytes.now then Some bytes.now else None)) }
-{
-    match str::from_utf8(bytes) {
-        Ok(text) => Ok(Some(Word::from_str(alloc, text)?)),
-        Err(_) => Ok(None),
-    }
-}
-
 // The bytes with letters A to Z made small.
 fn lowered(alloc: Global, bytes: &[u8]) -> Result<Vec<u8>, AllocError>
     ensures { IfOk result (λ lower. lower.items ≡ str_to_ascii_lowercase bytes.now) }
@@ -38,7 +28,7 @@ pub(crate) fn name(alloc: Global, bytes: &[u8]) -> Result<TokenKind, AllocError>
     ensures { IfOk result (λ kind. kind ≡ Name (str_to_ascii_lowercase bytes.now)) }
 {
     let lower = lowered(alloc, bytes)?;
-    match word_of(alloc, &lower)? {
+    match Word::from_utf8(alloc, &lower)? {
         Some(word) => Ok(TokenKind::Name(word)),
         None => unreachable!(),
     }
@@ -64,7 +54,7 @@ pub(crate) fn text(alloc: Global, bytes: &[u8], at: u32) -> Result<Option<TokenK
     ensures { result ≢ Err Memory → result ≡ content_of a_text bytes.now at }
 {
     let inside = unpaired(alloc, &bytes[1..bytes.len() - 1])?;
-    match word_of(alloc, &inside)? {
+    match Word::from_utf8(alloc, &inside)? {
         Some(word) => Ok(Some(TokenKind::Text(word))),
         None => Err(LexFault::BadByte { at }),
     }
