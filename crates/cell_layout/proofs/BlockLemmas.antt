@@ -50,26 +50,26 @@ banks_few widths =
     let m = length-numbered 0 widths in
     omega arith
 
--- a cell that is kept has few banks
+-- a cell in memory has few banks
 pub plan_few : (columns : List Classes) (cell : Cell) → IsCellRepr columns cell → length columns ≤ MOST_COLUMNS → length cell.plan ≤ MOST_COLUMNS
-plan_few columns cell kept few =
+plan_few columns cell repr few =
     let banks = banks_few (cell_widths columns cell.classes) in
     let widths = length-map (zip columns cell.classes) (λ (p : Classes × ℕ). class_width p.0 p.1) in
     let both = length-zip columns cell.classes in
-    let plan = ap length kept.plan in
+    let plan = ap length repr.plan in
     omega arith
 
 abbrev pub blocks_in : Cell → ℕ
 blocks_in cell = blocks_for cell.plan cell.rows
 
--- the blocks of cells that are kept
-pub blocks_kept : (schema : Schema) (columns : List Classes) (rest : List Row) (others cells : List Cell) → All (IsCellRepr columns) cells
+-- the blocks of cells in memory
+pub blocks-image : (schema : Schema) (columns : List Classes) (rest : List Row) (others cells : List Cell) → All (IsCellRepr columns) cells
     → sum_by (cell_blocks (image_of schema columns others rest)) (map cell_image cells) ≡ sum_by blocks_in cells
-blocks_kept schema columns rest others [] all = refl
-blocks_kept schema columns rest others (c ∷ cells) all =
-    let kept = All-head (IsCellRepr columns) c cells all in
-    let more = blocks_kept schema columns rest others cells (All-tail (IsCellRepr columns) c cells all) in
-    let here : cell_blocks (image_of schema columns others rest) (cell_image c) ≡ blocks_in c = rw (← kept.plan, length-rows c.codes c.rows) refl in
+blocks-image schema columns rest others [] all = refl
+blocks-image schema columns rest others (c ∷ cells) all =
+    let repr = All-head (IsCellRepr columns) c cells all in
+    let more = blocks-image schema columns rest others cells (All-tail (IsCellRepr columns) c cells all) in
+    let here : cell_blocks (image_of schema columns others rest) (cell_image c) ≡ blocks_in c = rw (← repr.plan, length-rows c.codes c.rows) refl in
     let left = sum_by-cons (cell_blocks (image_of schema columns others rest)) (cell_image c) (map cell_image cells) in
     let right = sum_by-cons blocks_in c cells in
     left ∙ (λ i. here i + more i) ∙ sym right

@@ -86,8 +86,8 @@ pub placed-rearranged : DecodesFound → (image : TableImage) (rows : List Row) 
     → Rearranged rows (rows_of (placed image.schema image.columns rows))
 placed-rearranged decodes image rows valid long =
     let columns = image.columns in
-    let kept = filter (is_coded columns) rows in
+    let coded_part = filter (is_coded columns) rows in
     let rest = filter (λ row. not (is_coded columns row)) rows in
-    let here = cells_rearranged (placed image.schema columns rows) (map (coded columns) kept) in
-    let back = all_back decodes columns kept valid (whole_rows columns rows long) in
-    followed (parted (is_coded columns) rows) (behind rest (subst (λ l. Rearranged l (flat_map (cell_rows (placed image.schema columns rows)) (cells_of (map (coded columns) kept)))) back here))
+    let here = cells_rearranged (placed image.schema columns rows) (map (coded columns) coded_part) in
+    let back = all_back decodes columns coded_part valid (whole_rows columns rows long) in
+    followed (parted (is_coded columns) rows) (behind rest (subst (λ l. Rearranged l (flat_map (cell_rows (placed image.schema columns rows)) (cells_of (map (coded columns) coded_part)))) back here))

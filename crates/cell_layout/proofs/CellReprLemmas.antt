@@ -1,4 +1,4 @@
--- The codes and the rows of cells that are kept.
+-- The codes and the rows of cells in memory.
 use Rattle.std.proofs.Common.{◌≡◌, ◌≤◌, ◌<◌, ℕ, zero, suc, ◌+◌, List, [], ◌∷◌, ◌++◌, map, take, length, get_or, nat_lt, sum_by, slice_get, Some, unwrap_or, pos, Result, Ok, Err, IfOk, refl, sym, ap, ◌∙◌, arith}
 use Rattle.std.specs.declared.alloc.AllocError.{AllocError}
 use Rattle.std.specs.List.{list_all, flat_map}
@@ -26,18 +26,18 @@ length-rows columns n = length-numbers (row_of_codes columns) 0 n
 pub row_at : (columns : List (List ℕ × ℕ)) (n i : ℕ) (d : List ℕ) → i < n → get_or (rows_of_codes columns n) i d ≡ row_of_codes columns i
 row_at columns n i d lt = numbers-at (row_of_codes columns) 0 n i d lt ∙ (let e : 0 + i ≡ i = omega arith in ap (row_of_codes columns) e)
 
-pub code_kept : (columns : List (List ℕ × ℕ)) (row column : ℕ) (d : List ℕ × ℕ) → column < length columns → get_or (row_of_codes columns row) column 0 ≡ get_or (get_or columns column d).0 row 0
-code_kept columns row column d lt = get_or-map (λ (codes : List ℕ × ℕ). get_or codes.0 row 0) columns column d 0 lt
+pub code_of_row : (columns : List (List ℕ × ℕ)) (row column : ℕ) (d : List ℕ × ℕ) → column < length columns → get_or (row_of_codes columns row) column 0 ≡ get_or (get_or columns column d).0 row 0
+code_of_row columns row column d lt = get_or-map (λ (codes : List ℕ × ℕ). get_or codes.0 row 0) columns column d 0 lt
 
--- the parts of a cell that is kept
+-- the parts of a cell in memory
 pub record HasCodes (columns : List Classes) (cell : Cell) (row : ℕ) : Type 0 where
   pub classes : length cell.classes ≡ length columns
   pub row_full : length (row_of_codes cell.codes row) ≡ length columns
   pub below : (k : ℕ) → k < length columns → get_or (row_of_codes cell.codes row) k 0 < length (class_at (get_or columns k []) (get_or cell.classes k 0))
 
 pub has_codes : (columns : List Classes) (cell : Cell) (row : ℕ) → IsCellRepr columns cell → row < cell.rows → HasCodes columns cell row
-has_codes columns cell row kept lt =
-    let all = and_parts _ (list_all (are_codes columns cell.classes) (rows_of_codes cell.codes cell.rows)) kept.good in
+has_codes columns cell row repr lt =
+    let all = and_parts _ (list_all (are_codes columns cell.classes) (rows_of_codes cell.codes cell.rows)) repr.good in
     let three = and_parts _ (is_row_count (rows_of_codes cell.codes cell.rows)) all.0 in
     let two = and_parts _ _ three.0 in
     let classes : length cell.classes ≡ length columns = eqb-true _ _ two.0 in
@@ -107,9 +107,9 @@ module _ (columns : List Classes) where
 -- the same as calls say it
 pub code_below : (columns : List Classes) (cell : Cell) (row k : ℕ) (values : Classes) (class code : ℕ) → IsCellRepr columns cell → row < cell.rows → k < length columns
     → values ≡ get_or columns k values → class ≡ get_or cell.classes k 0 → code ≡ get_or (row_of_codes cell.codes row) k 0 → code < length (class_at values class)
-code_below columns cell row k values class code kept row_in lt is at here =
+code_below columns cell row k values class code repr row_in lt is at here =
     let one : values ≡ get_or columns k [] = is ∙ get_or_default columns k values [] lt in
-    rw (one, at, here) ((has_codes columns cell row kept row_in).below k lt)
+    rw (one, at, here) ((has_codes columns cell row repr row_in).below k lt)
 
 pub cell_seen : (image : TableImage) (schema : Schema) (columns : List Classes) (cells : List Cell) (rest : List Row) (k : ℕ) (cell : Cell) → image_of schema columns cells rest ≡ image
     → k < length image.cells → cell ≡ get_or cells k cell → (k < length cells) × (cell_at image k ≡ cell_image cell)
@@ -122,8 +122,8 @@ cell_seen image schema columns cells rest k cell view lt is =
 pub decoded_more : (columns : List Classes) (cell : Cell) (row k : ℕ) (values : Classes) (classes : List ℕ) (code : ℕ) (v copy : Value) (so_far more : List Value) → IsCellRepr columns cell → row < cell.rows
     → k < length columns → values ≡ get_or columns k values → classes ≡ cell.classes → code ≡ get_or (row_of_codes cell.codes row) k 0 → decoded values (get_or classes k 0) code ≡ Some v → copy ≡ v
     → so_far ≡ take k (decoded_row columns cell.classes (row_of_codes cell.codes row)) → more ≡ so_far ++ copy ∷ [] → more ≡ take (k + 1) (decoded_row columns cell.classes (row_of_codes cell.codes row))
-decoded_more columns cell row k values classes code v copy so_far more kept row_in lt is at here found same front pushed =
-    let has = has_codes columns cell row kept row_in in
+decoded_more columns cell row k values classes code v copy so_far more repr row_in lt is at here found same front pushed =
+    let has = has_codes columns cell row repr row_in in
     let one : values ≡ get_or columns k [] = is ∙ get_or_default columns k values [] lt in
     let value = decoded_at columns cell row k v v has lt (rw (one, at, here) at found) in
     let within : k < length (decoded_row columns cell.classes (row_of_codes cell.codes row)) = rw (length-decoded columns cell row has) lt in
@@ -132,8 +132,8 @@ decoded_more columns cell row k values classes code v copy so_far more kept row_
 
 pub decoded_all : (columns : List Classes) (cell : Cell) (row k : ℕ) (values : List Value) → IsCellRepr columns cell → row < cell.rows → length columns ≤ k
     → values ≡ take k (decoded_row columns cell.classes (row_of_codes cell.codes row)) → values ≡ decoded_row columns cell.classes (row_of_codes cell.codes row)
-decoded_all columns cell row k values kept row_in le so_far =
-    so_far ∙ take_all k (decoded_row columns cell.classes (row_of_codes cell.codes row)) (rw (length-decoded columns cell row (has_codes columns cell row kept row_in)) le)
+decoded_all columns cell row k values repr row_in le so_far =
+    so_far ∙ take_all k (decoded_row columns cell.classes (row_of_codes cell.codes row)) (rw (length-decoded columns cell row (has_codes columns cell row repr row_in)) le)
 
 -- the rows of an image, cell by cell
 rows_each : (image : TableImage) (cells : List Cell) → flat_map (cell_rows image) (map cell_image cells) ≡ flat_map (rows_in image.columns) cells

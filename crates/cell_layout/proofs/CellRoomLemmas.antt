@@ -69,12 +69,12 @@ bare_cell_same old new r =
 
 module _ (old new : List Cell) (same : AreRoomierCells old new) where
   each_same : {X : Type 0} (f : Cell → X) (e : X) → ((a b : Cell) → IsRoomier a b → f b ≡ f a) → map f new ≡ map f old
-  each_same f e kept =
+  each_same f e repr =
       let count = same.count in
       ext_get_or e (map f new) (map f old) (length-map new f ∙ count ∙ sym (length-map old f))
       (λ k lt.
       let n = length-map new f in
-      get_or-map f new k empty_cell e (omega arith) ∙ kept (get_or old k empty_cell) (get_or new k empty_cell) (same.each k empty_cell) ∙ sym (get_or-map f old k empty_cell e (omega arith)))
+      get_or-map f new k empty_cell e (omega arith) ∙ repr (get_or old k empty_cell) (get_or new k empty_cell) (same.each k empty_cell) ∙ sym (get_or-map f old k empty_cell e (omega arith)))
 
   pub keys_same : keys_of_cells new ≡ keys_of_cells old
   keys_same = each_same (λ (c : Cell). c.classes) [] (λ a b r. r.same_classes)

@@ -91,25 +91,25 @@ cell_more columns cell more good more_good same few =
 
 -- a cell that grows by the rows of another
 pub record AbsorbedCell (columns : List Classes) (old new more : Cell) : Type 0 where
-  pub kept : IsCellRepr columns new
+  pub repr : IsCellRepr columns new
   pub image : cell_image new ≡ with_rows (cell_image old) (cell_image more)
 
 pub absorbed_cell : (columns : List Classes) (old new more : Cell) → IsCellRepr columns old → IsCellRepr columns more → IsAbsorbed old new more → old.classes ≡ more.classes → old.rows + more.rows ≤ MOST_ROWS
     → AbsorbedCell columns old new more
-absorbed_cell columns old new more kept more_kept absorbed same few =
-    let width : length more.codes ≡ length old.codes = more_kept.lists ∙ sym kept.lists in
+absorbed_cell columns old new more repr more_repr absorbed same few =
+    let width : length more.codes ≡ length old.codes = more_repr.lists ∙ sym repr.lists in
     let rows : rows_of_codes new.codes new.rows ≡ rows_of_codes old.codes old.rows ++ rows_of_codes more.codes more.rows =
-    ap (rows_of_codes new.codes) absorbed.rows ∙ rows-appended old.codes new.codes more.codes old.rows more.rows kept.full more_kept.full width absorbed.appended in
+    ap (rows_of_codes new.codes) absorbed.rows ∙ rows-appended old.codes new.codes more.codes old.rows more.rows repr.full more_repr.full width absorbed.appended in
     let classes = absorbed.same_classes in
     let image : cell_image new ≡ with_rows (cell_image old) (cell_image more) = λ i. record { classes = classes i; rows = rows i } in
     let n = length-rows old.codes old.rows in
     let m = length-rows more.codes more.rows in
     record {
-      kept = record {
-        plan = absorbed.same_plan ∙ kept.plan ∙ ap (banks_for columns) (sym classes);
-        lists = absorbed.appended.count ∙ kept.lists;
-        full = subst (λ k. All (λ (c : List ℕ × ℕ). length c.0 ≡ k) new.codes) (sym absorbed.rows) (full-appended old.codes new.codes more.codes old.rows more.rows kept.full more_kept.full width absorbed.appended);
-        good = ap (is_cell columns) image ∙ cell_more columns (cell_image old) (cell_image more) kept.good more_kept.good same (omega arith);
+      repr = record {
+        plan = absorbed.same_plan ∙ repr.plan ∙ ap (banks_for columns) (sym classes);
+        lists = absorbed.appended.count ∙ repr.lists;
+        full = subst (λ k. All (λ (c : List ℕ × ℕ). length c.0 ≡ k) new.codes) (sym absorbed.rows) (full-appended old.codes new.codes more.codes old.rows more.rows repr.full more_repr.full width absorbed.appended);
+        good = ap (is_cell columns) image ∙ cell_more columns (cell_image old) (cell_image more) repr.good more_repr.good same (omega arith);
       };
       image = image;
     }

@@ -22,7 +22,7 @@ pub cell_told : (image : TableImage) (schema : Schema) (columns : List Classes) 
 cell_told image schema columns cells list rest rows k cell view is_repr same is lt =
     let seen = cell_seen image schema columns cells rest k cell view lt (is ∙ ap (λ l. get_or l k cell) same) in
     let within : k < length list = let n = ap length same in omega (arith, n, seen.0) in
-    let repr = item_of (IsCellRepr columns) list cells k cell is_repr.kept same is within in
+    let repr = item_of (IsCellRepr columns) list cells k cell is_repr.repr same is within in
     let few = rows_within cells list rest rows k cell is_repr.counted is_repr.most same is within in
     let of_columns : columns ≡ image.columns = ap (λ (i : TableImage). i.columns) view in
     let of_classes : cell.classes ≡ (cell_at image k).classes = ap (λ (i : CellImage). i.classes) (sym seen.1) in

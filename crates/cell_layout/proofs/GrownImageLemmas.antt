@@ -21,9 +21,9 @@ use Rattle.cell_layout.specs.Repartition.{StandsPlaced}
 use Rattle.cell_layout.proofs.RowFitLemmas.{schema_bounds, fits_long, may_hold}
 use Rattle.cell_layout.proofs.CellReprLemmas.{rows_seen, length-all}
 
--- the number of rows that is kept is the image's
-pub row_count_kept : (image : TableImage) (schema : Schema) (columns : List Classes) (cells : List Cell) (rest : List Row) (rows : ℕ) → image_of schema columns cells rest ≡ image → IsImageRepr schema columns cells rest rows → row_count image ≡ rows
-row_count_kept image schema columns cells rest rows view kept = ap length (rows_seen image schema columns cells rest view) ∙ length-all columns cells rest ∙ sym kept.counted
+-- the number of rows in memory is the image's
+pub row_count_is : (image : TableImage) (schema : Schema) (columns : List Classes) (cells : List Cell) (rest : List Row) (rows : ℕ) → image_of schema columns cells rest ≡ image → IsImageRepr schema columns cells rest rows → row_count image ≡ rows
+row_count_is image schema columns cells rest rows view repr = ap length (rows_seen image schema columns cells rest view) ∙ length-all columns cells rest ∙ sym repr.counted
 
 -- too many rows are refused, and else the first key that stands before
 pub too_many : (limit : ℕ) (image : TableImage) (batch : List Row) → limit < row_count image + length batch → refusal_of limit image batch ≡ Some Rows
@@ -35,15 +35,15 @@ not_too_many limit image batch few = ap (λ b. if b then Some Rows else duplicat
 -- whether rows are within the limit, as calls say it
 pub beyond : (image : TableImage) (schema : Schema) (columns : List Classes) (cells : List Cell) (rest batch : List Row) (rows limit len : ℕ) → image_of schema columns cells rest ≡ image → IsImageRepr schema columns cells rest rows
     → len ≡ length batch → true ≡ nat_lt limit (rows + len) → refusal_of limit image batch ≡ Some Rows
-beyond image schema columns cells rest batch rows limit len view kept long more =
-    let count = row_count_kept image schema columns cells rest rows view kept in
+beyond image schema columns cells rest batch rows limit len view repr long more =
+    let count = row_count_is image schema columns cells rest rows view repr in
     let above = ltb-true limit (rows + len) (sym more) in
     too_many limit image batch (omega arith)
 
 pub within : (image : TableImage) (schema : Schema) (columns : List Classes) (cells : List Cell) (rest batch : List Row) (rows limit len : ℕ) → image_of schema columns cells rest ≡ image → IsImageRepr schema columns cells rest rows
     → len ≡ length batch → false ≡ nat_lt limit (rows + len) → row_count image + length batch ≤ limit
-within image schema columns cells rest batch rows limit len view kept long few =
-    let count = row_count_kept image schema columns cells rest rows view kept in
+within image schema columns cells rest batch rows limit len view repr long few =
+    let count = row_count_is image schema columns cells rest rows view repr in
     let below = ltb-false limit (rows + len) (sym few) in
     omega arith
 
@@ -59,8 +59,8 @@ pub may_lie : (image : TableImage) (batch : List Row) (limit : ℕ) → is_valid
 may_lie image batch limit valid fit few most none = may_hold image batch valid fit (omega arith) (sym (not_too_many limit image batch few) ∙ none)
 
 -- the key is a column of rows that fit
-pub keys_within : (schema kept : Schema) (rows list : List Row) → kept ≡ schema → list ≡ rows → is_schema schema ≡ true → list_all (fits schema) rows ≡ true → IfSome kept.key (λ k. All (λ (row : Row). k < length row) list)
-keys_within schema kept rows list same seen allowed fit = rw (same, seen) (by schema.key (schema_bounds schema allowed).key)
+pub keys_within : (schema repr : Schema) (rows list : List Row) → repr ≡ schema → list ≡ rows → is_schema schema ≡ true → list_all (fits schema) rows ≡ true → IfSome repr.key (λ k. All (λ (row : Row). k < length row) list)
+keys_within schema repr rows list same seen allowed fit = rw (same, seen) (by schema.key (schema_bounds schema allowed).key)
   where
     by : (key : Option ℕ) → IfSome key (λ k. k < length schema.columns) → IfSome key (λ k. All (λ (row : Row). k < length row) rows)
     by None h = tt
@@ -69,7 +69,7 @@ keys_within schema kept rows list same seen allowed fit = rw (same, seen) (by sc
 -- the rows of a valid image stand placed
 pub standing_placed : StandsPlaced → (image : TableImage) (schema : Schema) (columns : List Classes) (cells : List Cell) (rest : List Row) (rows : ℕ) → is_valid image ≡ true → image_of schema columns cells rest ≡ image → IsImageRepr schema columns cells rest rows
     → ArePlaced columns (rows_of image) cells rest
-standing_placed law image schema columns cells rest rows valid view kept =
+standing_placed law image schema columns cells rest rows valid view repr =
     let stands : placed image.schema image.columns (rows_of image) ≡ image = law image valid in
     let of_columns : image.columns ≡ columns = ap (λ (i : TableImage). i.columns) (sym view) in
     record {
@@ -79,15 +79,15 @@ standing_placed law image schema columns cells rest rows valid view kept =
       others =
           ap (λ (i : TableImage). i.rest) view ∙ ap (λ (i : TableImage). i.rest) (sym stands)
           ∙ ap (λ cs. filter (λ row. not (is_coded cs row)) (rows_of image)) of_columns;
-      kept = kept.kept;
-      order = kept.order;
-      counted = sym kept.counted ∙ sym (row_count_kept image schema columns cells rest rows view kept);
+      repr = repr.repr;
+      order = repr.order;
+      counted = sym repr.counted ∙ sym (row_count_is image schema columns cells rest rows view repr);
     }
 
 -- placed rows are the grown image
-pub grown_kept : (image : TableImage) (schema : Schema) (columns : List Classes) (cells new : List Cell) (rest more batch : List Row) → image_of schema columns cells rest ≡ image
+pub grown_image_is : (image : TableImage) (schema : Schema) (columns : List Classes) (cells new : List Cell) (rest more batch : List Row) → image_of schema columns cells rest ≡ image
     → ArePlaced columns (rows_of image ++ batch) new more → image_of schema columns new more ≡ grown image batch
-grown_kept image schema columns cells new rest more batch view placed_all =
+grown_image_is image schema columns cells new rest more batch view placed_all =
     let of_schema : schema ≡ image.schema = ap (λ (i : TableImage). i.schema) view in
     let of_columns : columns ≡ image.columns = ap (λ (i : TableImage). i.columns) view in
     let of_cells : map cell_image new ≡ cells_of (map (coded image.columns) (filter (is_coded image.columns) (rows_of image ++ batch))) =
@@ -96,12 +96,12 @@ grown_kept image schema columns cells new rest more batch view placed_all =
     placed_all.others ∙ ap (λ cs. filter (λ row. not (is_coded cs row)) (rows_of image ++ batch)) of_columns in
     λ i. record { schema = of_schema i; columns = of_columns i; cells = of_cells i; rest = of_rest i }
 
-pub kept_grown : (schema : Schema) (columns : List Classes) (cells new : List Cell) (rest more all : List Row) (rows n : ℕ) → IsImageRepr schema columns cells rest rows → ArePlaced columns all new more → n ≡ length all → n ≤ MOST_ROWS → IsImageRepr schema columns new more n
-kept_grown schema columns cells new rest more all rows n kept placed_all same few =
+pub grown_repr : (schema : Schema) (columns : List Classes) (cells new : List Cell) (rest more all : List Row) (rows n : ℕ) → IsImageRepr schema columns cells rest rows → ArePlaced columns all new more → n ≡ length all → n ≤ MOST_ROWS → IsImageRepr schema columns new more n
+grown_repr schema columns cells new rest more all rows n repr placed_all same few =
     record {
-      each = kept.each;
-      few = kept.few;
-      kept = placed_all.kept;
+      each = repr.each;
+      few = repr.few;
+      repr = placed_all.repr;
       order = placed_all.order;
       counted = same ∙ sym placed_all.counted;
       most = omega arith;

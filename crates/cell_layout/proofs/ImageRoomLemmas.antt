@@ -44,8 +44,8 @@ rows_bare : (cells : List Cell) → rows_in_all cells ≡ sum_by (λ (b : Bare).
 rows_bare [] = refl
 rows_bare (cell ∷ cells) = sum_by-cons (λ (c : Cell). c.rows) cell cells ∙ ap (λ n. cell.rows + n) (rows_bare cells) ∙ sym (sum_by-cons (λ (b : Bare). b.3) (bare_cell cell) (map bare_cell cells))
 
-kept_bare : (columns : List Classes) (old new : Cell) → bare_cell new ≡ bare_cell old → IsCellRepr columns old → IsCellRepr columns new
-kept_bare columns old new e kept =
+repr_bare : (columns : List Classes) (old new : Cell) → bare_cell new ≡ bare_cell old → IsCellRepr columns old → IsCellRepr columns new
+repr_bare columns old new e repr =
     let classes : new.classes ≡ old.classes = ap (λ (b : Bare). b.0) e in
     let plan : new.plan ≡ old.plan = ap (λ (b : Bare). b.1) e in
     let codes : map (λ (l : List ℕ × ℕ). l.0) new.codes ≡ map (λ (l : List ℕ × ℕ). l.0) old.codes = ap (λ (b : Bare). b.2) e in
@@ -53,12 +53,12 @@ kept_bare columns old new e kept =
     let image : cell_image new ≡ cell_image old = image_bare new ∙ ap bare_image e ∙ sym (image_bare old) in
     let count : length new.codes ≡ length old.codes = sym (length-map new.codes (λ (l : List ℕ × ℕ). l.0)) ∙ ap length codes ∙ length-map old.codes (λ (l : List ℕ × ℕ). l.0) in
     record {
-      plan = plan ∙ kept.plan ∙ ap (banks_for columns) (sym classes);
-      lists = count ∙ kept.lists;
+      plan = plan ∙ repr.plan ∙ ap (banks_for columns) (sym classes);
+      lists = count ∙ repr.lists;
       full = λ k d lt.
           ap length (sym (get_or-map (λ (l : List ℕ × ℕ). l.0) new.codes k d [] lt) ∙ ap (λ l. get_or l k []) codes ∙ get_or-map (λ (l : List ℕ × ℕ). l.0) old.codes k d [] (omega arith))
-          ∙ kept.full k d (omega arith) ∙ sym rows;
-      good = ap (is_cell columns) image ∙ kept.good;
+          ∙ repr.full k d (omega arith) ∙ sym rows;
+      good = ap (is_cell columns) image ∙ repr.good;
     }
 
 module _ (old new : List Cell) (same : map bare_cell new ≡ map bare_cell old) where
@@ -71,12 +71,12 @@ module _ (old new : List Cell) (same : map bare_cell new ≡ map bare_cell old) 
   rows_same : rows_in_all new ≡ rows_in_all old
   rows_same = rows_bare new ∙ ap (sum_by (λ (b : Bare). b.3)) same ∙ sym (rows_bare old)
 
-  kept_same : (columns : List Classes) → All (IsCellRepr columns) old → All (IsCellRepr columns) new
-  kept_same columns kept k d lt =
+  repr_same : (columns : List Classes) → All (IsCellRepr columns) old → All (IsCellRepr columns) new
+  repr_same columns repr k d lt =
       let count : length new ≡ length old = sym (length-map new bare_cell) ∙ ap length same ∙ length-map old bare_cell in
-      kept_bare columns (get_or old k d) (get_or new k d)
+      repr_bare columns (get_or old k d) (get_or new k d)
       (sym (get_or-map bare_cell new k d (bare_cell d) lt) ∙ ap (λ l. get_or l k (bare_cell d)) same ∙ get_or-map bare_cell old k d (bare_cell d) (omega arith))
-      (kept k d (omega arith))
+      (repr k d (omega arith))
 
 -- the rows that cells are placed for
 pub same_placed : (columns : List Classes) (rows : List Row) (old new : List Cell) (rest more : List Row) → IsSameButRoom old rest new more → ArePlaced columns rows old rest → ArePlaced columns rows new more
@@ -87,29 +87,29 @@ same_placed columns rows old new rest more same placed =
     record {
       image = images_same old new same.same_cells ∙ placed.image;
       others = same.same_rest ∙ placed.others;
-      kept = kept_same old new same.same_cells columns placed.kept;
+      repr = repr_same old new same.same_cells columns placed.repr;
       order = ap (rises cell_cmp) (keys_same old new same.same_cells) ∙ placed.order;
       counted = omega arith;
     }
 
--- the image that is kept
+-- the image that cells stand for
 pub same_image : (schema : Schema) (columns : List Classes) (old new : List Cell) (rest more : List Row) → IsSameButRoom old rest new more → image_of schema columns new more ≡ image_of schema columns old rest
 same_image schema columns old new rest more same =
     let cells = images_same old new same.same_cells in
     let others = same.same_rest in
     λ i. record { schema = schema; columns = columns; cells = cells i; rest = others i }
 
--- and what is kept of it
-pub same_kept : (schema : Schema) (columns : List Classes) (old new : List Cell) (rest more : List Row) (rows : ℕ) → IsSameButRoom old rest new more → IsImageRepr schema columns old rest rows → IsImageRepr schema columns new more rows
-same_kept schema columns old new rest more rows same kept =
+-- and it is in memory as before
+pub same_repr : (schema : Schema) (columns : List Classes) (old new : List Cell) (rest more : List Row) (rows : ℕ) → IsSameButRoom old rest new more → IsImageRepr schema columns old rest rows → IsImageRepr schema columns new more rows
+same_repr schema columns old new rest more rows same repr =
     let one = rows_same old new same.same_cells in
     let two = ap length same.same_rest in
-    let counted = kept.counted in
+    let counted = repr.counted in
     record {
-      each = kept.each;
-      few = kept.few;
-      kept = kept_same old new same.same_cells columns kept.kept;
-      order = ap (rises cell_cmp) (keys_same old new same.same_cells) ∙ kept.order;
+      each = repr.each;
+      few = repr.few;
+      repr = repr_same old new same.same_cells columns repr.repr;
+      order = ap (rises cell_cmp) (keys_same old new same.same_cells) ∙ repr.order;
       counted = omega arith;
-      most = kept.most;
+      most = repr.most;
     }

@@ -1,4 +1,4 @@
--- One more row among cells that are kept.
+-- One more row among cells in memory.
 use Rattle.std.proofs.Common.{◌≡◌, ◌≢◌, ◌≤◌, ◌<◌, ℕ, zero, suc, ◌+◌, ◌&&◌, ◌==◌, nat_lt, nat_le, Bool, true, List, [], ◌∷◌, ◌++◌, map, length, get_or, set, insert, take, drop, All, refl, sym, ap, subst, ◌∙◌, arith, inl, inr, ◌⊎◌}
 use Rattle.std.specs.List.{list_all, zip}
 use Rattle.std.specs.declared.cmp.Ordering.TheVariants.{Less, Greater}
@@ -111,45 +111,45 @@ cell_with columns cell r good few codes =
 
 -- a cell that grows by a row
 pub record GrownCell (columns : List Classes) (old new : Cell) (r : CodedRow) : Type 0 where
-  pub kept : IsCellRepr columns new
+  pub repr : IsCellRepr columns new
   pub image : cell_image new ≡ with_row (cell_image old) r
 
 pub grown_cell : (columns : List Classes) (old new : Cell) (r : CodedRow) → IsCellRepr columns old → IsGrown old new r.codes → old.classes ≡ r.classes → AreWithin columns r.classes r.codes (length columns) → old.rows < MOST_ROWS
     → GrownCell columns old new r
-grown_cell columns old new r kept grown same w few =
-    let width : length r.codes ≡ length old.codes = w.code_count ∙ sym kept.lists in
+grown_cell columns old new r repr grown same w few =
+    let width : length r.codes ≡ length old.codes = w.code_count ∙ sym repr.lists in
     let rows : rows_of_codes new.codes new.rows ≡ rows_of_codes old.codes old.rows ++ r.codes ∷ [] =
-    ap (rows_of_codes new.codes) grown.one_more ∙ rows-pushed old.codes new.codes r.codes old.rows kept.full width grown.pushed in
+    ap (rows_of_codes new.codes) grown.one_more ∙ rows-pushed old.codes new.codes r.codes old.rows repr.full width grown.pushed in
     let classes = grown.same_classes in
     let image : cell_image new ≡ with_row (cell_image old) r = λ i. record { classes = classes i; rows = rows i } in
     let n = length-rows old.codes old.rows in
     record {
-      kept = record {
-        plan = grown.same_plan ∙ kept.plan ∙ ap (banks_for columns) (sym classes);
-        lists = grown.pushed.count ∙ kept.lists;
-        full = subst (λ m. All (λ (c : List ℕ × ℕ). length c.0 ≡ m) new.codes) (sym grown.one_more) (full-pushed old.codes new.codes r.codes old.rows kept.full width grown.pushed);
-        good = ap (is_cell columns) image ∙ cell_with columns (cell_image old) r kept.good (omega arith) (ap (λ k. are_codes columns k r.codes) same ∙ codes_within columns r.classes r.codes w);
+      repr = record {
+        plan = grown.same_plan ∙ repr.plan ∙ ap (banks_for columns) (sym classes);
+        lists = grown.pushed.count ∙ repr.lists;
+        full = subst (λ m. All (λ (c : List ℕ × ℕ). length c.0 ≡ m) new.codes) (sym grown.one_more) (full-pushed old.codes new.codes r.codes old.rows repr.full width grown.pushed);
+        good = ap (is_cell columns) image ∙ cell_with columns (cell_image old) r repr.good (omega arith) (ap (λ k. are_codes columns k r.codes) same ∙ codes_within columns r.classes r.codes w);
       };
       image = image;
     }
 
-pub keys-kept : (cells : List Cell) → keys_in (map cell_image cells) ≡ keys_of_cells cells
-keys-kept [] = refl
-keys-kept (c ∷ cells) = ap (λ l. c.classes ∷ l) (keys-kept cells)
+pub keys-image : (cells : List Cell) → keys_in (map cell_image cells) ≡ keys_of_cells cells
+keys-image [] = refl
+keys-image (c ∷ cells) = ap (λ l. c.classes ∷ l) (keys-image cells)
 
 -- a row in the cell that was found
 pub found_put : (columns : List Classes) (old new : List Cell) (at : ℕ) (classes codes : List ℕ) → All (IsCellRepr columns) old → rises cell_cmp (keys_of_cells old) ≡ true → rows_in_all old < MOST_ROWS
     → AreWithin columns classes codes (length columns) → IsFound old classes at → IsPushed old new at codes → IsPut columns old new classes codes
-found_put columns old new at classes codes kept up few w found pushed =
+found_put columns old new at classes codes repr up few w found pushed =
     let before : Cell = get_or old at empty_cell in
     let after : Cell = get_or new at empty_cell in
     let r : CodedRow = record { classes = classes; codes = codes } in
     let same : (get_or old at empty_cell).classes ≡ classes = sym (get_or-map (λ (c : Cell). c.classes) old at empty_cell [] found.within) ∙ found.here in
     let upto = sum_by_more_le (λ (c : Cell). c.rows) old at empty_cell found.within in
-    let grown = grown_cell columns (get_or old at empty_cell) (get_or new at empty_cell) r (kept at empty_cell found.within) (pushed.here empty_cell) same w (omega arith) in
+    let grown = grown_cell columns (get_or old at empty_cell) (get_or new at empty_cell) r (repr at empty_cell found.within) (pushed.here empty_cell) same w (omega arith) in
     let whole : new ≡ set old at (get_or new at empty_cell) = ext_get_or empty_cell new (set old at (get_or new at empty_cell)) (pushed.count ∙ sym (length-set old at (get_or new at empty_cell))) (λ i lt. by i (cases_order i at)) in
     let view : get_or (map cell_image old) at (cell_image empty_cell) ≡ cell_image (get_or old at empty_cell) = get_or-map cell_image old at empty_cell (cell_image empty_cell) found.within in
-    let rising : Rising (keys_in (map cell_image old)) = subst Rising (sym (keys-kept old)) (rising-from (keys_of_cells old) up) in
+    let rising : Rising (keys_in (map cell_image old)) = subst Rising (sym (keys-image old)) (rising-from (keys_of_cells old) up) in
     let n = length-map old cell_image in
     let sums = sum_by-set (λ (c : Cell). c.rows) old at (get_or new at empty_cell) empty_cell found.within in
     let more = (pushed.here empty_cell).one_more in
@@ -159,7 +159,7 @@ found_put columns old new at classes codes kept up few w found pushed =
           ap (map cell_image) whole ∙ map-set cell_image old at (get_or new at empty_cell)
           ∙ ap (set (map cell_image old) at) (grown.image ∙ ap (λ c. with_row c r) (sym view))
           ∙ sym (put-found r (map cell_image old) at (cell_image empty_cell) rising (omega (arith, found.within)) (ap (λ (c : CellImage). c.classes) view ∙ same));
-      kept = subst (All (IsCellRepr columns)) (sym whole) (All-set (IsCellRepr columns) old at (get_or new at empty_cell) grown.kept kept);
+      repr = subst (All (IsCellRepr columns)) (sym whole) (All-set (IsCellRepr columns) old at (get_or new at empty_cell) grown.repr repr);
       one_more = omega arith;
     }
   where
@@ -216,7 +216,7 @@ first_cell columns cell r w first = (
 -- a row in a new cell
 pub missing_put : (columns : List Classes) (old new : List Cell) (at : ℕ) (cell : Cell) (classes codes : List ℕ) → All (IsCellRepr columns) old → AreWithin columns classes codes (length columns) → IsMissing old classes at
     → IsFirst columns cell classes codes → new ≡ insert old at cell → IsPut columns old new classes codes
-missing_put columns old new at cell classes codes kept w missing first whole =
+missing_put columns old new at cell classes codes repr w missing first whole =
     let r : CodedRow = record { classes = classes; codes = codes } in
     let one = first_cell columns cell r w first in
     let n = length-map old cell_image in
@@ -229,8 +229,8 @@ missing_put columns old new at cell classes codes kept w missing first whole =
           ∙ sym
           (put-missing r (map cell_image old) at (cell_image empty_cell) (omega (arith, missing.within)) (λ k lt. ap (λ x. cell_cmp x classes) (key k (omega (arith, missing.within))) ∙ missing.before k lt)
           (λ k le lt. ap (λ x. cell_cmp x classes) (key k (omega arith)) ∙ missing.behind k le (omega arith)));
-      kept = subst (All (IsCellRepr columns)) (sym whole) (All-append (IsCellRepr columns) (take at old) (cell ∷ drop at old) (All-take (IsCellRepr columns) at old kept)
-          (All-cons (IsCellRepr columns) cell (drop at old) one.0 (All-drop (IsCellRepr columns) at old kept)));
+      repr = subst (All (IsCellRepr columns)) (sym whole) (All-append (IsCellRepr columns) (take at old) (cell ∷ drop at old) (All-take (IsCellRepr columns) at old repr)
+          (All-cons (IsCellRepr columns) cell (drop at old) one.0 (All-drop (IsCellRepr columns) at old repr)));
       one_more = omega arith;
     }
   where

@@ -12,14 +12,14 @@ use Rattle.blink_lists.specs.declared.limits.TheConstants.{MOST_COLUMNS, MOST_RO
 use Rattle.cell_layout.specs.RowPartition.{ArePlaced}
 use Rattle.cell_layout.specs.Valid.{is_valid, MayHold, LaidIsValid}
 
--- placed rows are kept
-pub kept_placed : (schema copy : Schema) (columns : List Classes) (rows : List Row) (cells : List Cell) (rest : List Row) (n : ℕ) → ArePlaced columns rows cells rest → copy ≡ schema → length columns ≡ length schema.columns
+-- what placed rows stand for
+pub placed_repr : (schema copy : Schema) (columns : List Classes) (rows : List Row) (cells : List Cell) (rest : List Row) (n : ℕ) → ArePlaced columns rows cells rest → copy ≡ schema → length columns ≡ length schema.columns
     → length schema.columns ≤ MOST_COLUMNS → n ≡ length rows → n ≤ MOST_ROWS → IsImageRepr copy columns cells rest n
-kept_placed schema copy columns rows cells rest n placed same each few long most =
+placed_repr schema copy columns rows cells rest n placed same each few long most =
     record {
       each = each ∙ ap (λ (s : Schema). length s.columns) (sym same);
       few = omega arith;
-      kept = placed.kept;
+      repr = placed.repr;
       order = placed.order;
       counted = long ∙ sym placed.counted;
       most = omega arith;

@@ -21,24 +21,24 @@ use Rattle.cell_layout.specs.MergeCells.{HaveRoom, HasRoomFor, HaveRoomFor, IsAb
 use Rattle.cell_layout.proofs.InsertRowLemmas.{Rising-put}
 use Rattle.cell_layout.proofs.CellLemmas.{same_back}
 use Rattle.cell_layout.proofs.CellIndexLemmas.{rising-from, rises-from, above-at, key-here, empty_cell}
-use Rattle.cell_layout.proofs.InsertRowReprLemmas.{keys-kept, put-missing}
+use Rattle.cell_layout.proofs.InsertRowReprLemmas.{keys-image, put-missing}
 use Rattle.blink_lists.proofs.SliceLemmas.{map-insert}
 use Rattle.cell_layout.proofs.CellLookupLemmas.{lookup-set, lookup-insert}
 use Rattle.cell_layout.proofs.CellUnionLemmas.{absorbed_cell}
 use Rattle.cell_layout.proofs.CellRoomLemmas.{less_tied}
 
-kept_one : (columns : List Classes) (cell : Cell) → All (IsCellRepr columns) (cell ∷ []) → IsCellRepr columns cell
-kept_one columns cell all = All-head (IsCellRepr columns) cell [] all
+repr_one : (columns : List Classes) (cell : Cell) → All (IsCellRepr columns) (cell ∷ []) → IsCellRepr columns cell
+repr_one columns cell all = All-head (IsCellRepr columns) cell [] all
 
 -- the cell that was found has room for these rows
 pub room_here : (cells : List Cell) (at : ℕ) (cell : Cell) → AreAlike cells (cell ∷ []) → HasRoomFor cells cell.classes cell.rows → IsFound cells cell.classes at
     → (d : Cell) (k : ℕ) (e : List ℕ × ℕ) → k < length cell.codes → length (get_or cell.codes k e).0 ≤ (get_or (get_or cells at d).codes k e).1
 room_here cells at cell alike room found d k e lt =
-    let kept = kept_one alike.columns cell alike.added in
+    let repr = repr_one alike.columns cell alike.added in
     let there = alike.standing at d found.within in
-    let wide = kept.lists in
+    let wide = repr.lists in
     let as_wide = there.lists in
-    let size = kept.full k e lt in
+    let size = repr.full k e lt in
     let low = room at d found.within (key-here cells at d found.within ∙ found.here) k e (omega arith) in
     omega arith
 
@@ -65,9 +65,9 @@ module _ (old new : List Cell) (at : ℕ) (cell : Cell) (alike : AreAlike old (c
 
   found_lookup : (k : List ℕ) → lookup k (map cell_image new) ≡ lookup k (map cell_image old) ++ rows_under k (cell_image cell)
   found_lookup k =
-      let it = absorbed_cell alike.columns (get_or old at empty_cell) (get_or new at empty_cell) cell (alike.standing at empty_cell found.within) (kept_one alike.columns cell alike.added) (absorbed.here empty_cell) numbers low in
+      let it = absorbed_cell alike.columns (get_or old at empty_cell) (get_or new at empty_cell) cell (alike.standing at empty_cell found.within) (repr_one alike.columns cell alike.added) (absorbed.here empty_cell) numbers low in
       let view : get_or (map cell_image old) at (cell_image empty_cell) ≡ cell_image (get_or old at empty_cell) = get_or-map cell_image old at empty_cell (cell_image empty_cell) found.within in
-      let rising : Rising (keys_in (map cell_image old)) = subst Rising (sym (keys-kept old)) (rising-from (keys_of_cells old) up) in
+      let rising : Rising (keys_in (map cell_image old)) = subst Rising (sym (keys-image old)) (rising-from (keys_of_cells old) up) in
       let n = length-map old cell_image in
       let inside = found.within in
       let here = (absorbed.here empty_cell).same_classes in
@@ -84,8 +84,8 @@ module _ (old new : List Cell) (at : ℕ) (cell : Cell) (alike : AreAlike old (c
       record {
         order = ap (rises cell_cmp) same_keys ∙ up;
         found = found_lookup;
-        kept = λ columns kept more_kept. subst (All (IsCellRepr columns)) (sym whole) (All-set (IsCellRepr columns) old at (get_or new at empty_cell)
-            (absorbed_cell columns (get_or old at empty_cell) (get_or new at empty_cell) cell (kept at empty_cell found.within) more_kept (absorbed.here empty_cell) numbers low).kept kept);
+        repr = λ columns repr more_repr. subst (All (IsCellRepr columns)) (sym whole) (All-set (IsCellRepr columns) old at (get_or new at empty_cell)
+            (absorbed_cell columns (get_or old at empty_cell) (get_or new at empty_cell) cell (repr at empty_cell found.within) more_repr (absorbed.here empty_cell) numbers low).repr repr);
         counted = omega arith;
         room = λ classes rows ne has.
             let here = (absorbed.here empty_cell).same_classes in
@@ -101,19 +101,19 @@ module _ (old new : List Cell) (at : ℕ) (cell : Cell) (up : rises cell_cmp (ke
   new_keys =
       let n = length-map old cell_image in
       let inside = missing.within in
-      let rising : Rising (keys_in (map cell_image old)) = subst Rising (sym (keys-kept old)) (rising-from (keys_of_cells old) up) in
+      let rising : Rising (keys_in (map cell_image old)) = subst Rising (sym (keys-image old)) (rising-from (keys_of_cells old) up) in
       let placed : put_row (record { classes = cell.classes; codes = [] }) (map cell_image old) ≡ insert (map cell_image old) at (one_row (record { classes = cell.classes; codes = [] })) =
       put-missing (record { classes = cell.classes; codes = [] }) (map cell_image old) at (cell_image empty_cell) (omega arith) (λ k lt. ap (λ x. cell_cmp x cell.classes) (key k (omega arith)) ∙ missing.before k lt)
       (λ k le lt. ap (λ x. cell_cmp x cell.classes) (key k (omega arith)) ∙ missing.behind k le (omega arith)) in
       let numbers : keys_in (put_row (record { classes = cell.classes; codes = [] }) (map cell_image old)) ≡ keys_of_cells new =
       ap keys_in placed ∙ map-insert (λ (c : CellImage). c.classes) (map cell_image old) at (one_row (record { classes = cell.classes; codes = [] }))
-      ∙ ap (λ l. insert l at cell.classes) (keys-kept old) ∙ sym (ap keys_of_cells put ∙ map-insert (λ (c : Cell). c.classes) old at cell) in
+      ∙ ap (λ l. insert l at cell.classes) (keys-image old) ∙ sym (ap keys_of_cells put ∙ map-insert (λ (c : Cell). c.classes) old at cell) in
       subst Rising numbers (Rising-put (record { classes = cell.classes; codes = [] }) (map cell_image old) rising)
 
   other : (j : ℕ) → j < length (map cell_image old) → same_cell cell.classes (get_or (keys_in (map cell_image old)) j []) ≡ false
   other j lt =
       let n = length-map old cell_image in
-      ap (λ l. same_cell cell.classes (get_or l j [])) (keys-kept old) ∙ by (cases_order j at)
+      ap (λ l. same_cell cell.classes (get_or l j [])) (keys-image old) ∙ by (cases_order j at)
     where
       by : (j ≡ at) ⊎ ((j < at) ⊎ (at < j)) → same_cell cell.classes (key_at old j) ≡ false
       by (inl e) = let n = length-map old cell_image in same_back cell.classes (key_at old j) ∙ ap is_eq (missing.behind j (omega arith) (omega arith))
@@ -130,7 +130,7 @@ module _ (old new : List Cell) (at : ℕ) (cell : Cell) (up : rises cell_cmp (ke
       record {
         order = rises-from (keys_of_cells new) new_keys;
         found = λ k. ap (λ l. lookup k (map cell_image l)) put ∙ ap (lookup k) (map-insert cell_image old at cell) ∙ lookup-insert k (map cell_image old) at (cell_image cell) other;
-        kept = λ columns kept more_kept. parts (IsCellRepr columns) more_kept kept;
+        repr = λ columns repr more_repr. parts (IsCellRepr columns) more_repr repr;
         counted = total ∙ sums;
         room = λ classes rows ne has. parts (λ (c : Cell). c.classes ≡ classes → HaveRoom c.codes rows) (λ e. absurd (ne e)) has;
       }
@@ -147,9 +147,9 @@ merged_more old more now new left cell merged one =
       order_left = rises-from (keys_of_cells left) rising.1;
       found = λ k.
           ap (λ l. l ++ lookup k (map cell_image left)) (one.found k) ∙ append_assoc (lookup k (map cell_image now)) (rows_under k (cell_image cell)) (lookup k (map cell_image left)) ∙ merged.found k;
-      kept = λ columns kept added.
-          let both = merged.kept columns kept added in
-          (one.kept columns both.0 (All-head (IsCellRepr columns) cell left both.1), All-tail (IsCellRepr columns) cell left both.1);
+      repr = λ columns repr added.
+          let both = merged.repr columns repr added in
+          (one.repr columns both.0 (All-head (IsCellRepr columns) cell left both.1), All-tail (IsCellRepr columns) cell left both.1);
       counted = omega arith;
       room = λ k d lt. one.room (get_or left k d).classes (get_or left k d).rows (λ e. less_tied (sym (apart rising.0 k d lt) ∙ ap (cell_cmp cell.classes) (sym e) ∙ tied_itself nat_list_cmp_total cell.classes)) (merged.room (suc k) d (omega arith));
     }

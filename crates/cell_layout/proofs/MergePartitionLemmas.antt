@@ -18,7 +18,7 @@ use Rattle.cell_layout.specs.InsertRowRepr.{rows_in_all}
 use Rattle.cell_layout.specs.MergeCells.{AreBothPlaced, IsSameButRoom, AreAlike, AreMerged, lookup}
 use Rattle.cell_layout.proofs.RepartitionLemmas.{filled}
 use Rattle.cell_layout.proofs.PlacedImageLemmas.{cells_rise}
-use Rattle.cell_layout.proofs.InsertRowReprLemmas.{keys-kept}
+use Rattle.cell_layout.proofs.InsertRowReprLemmas.{keys-image}
 use Rattle.cell_layout.proofs.CellIndexLemmas.{rising-from}
 use Rattle.cell_layout.proofs.CellLookupLemmas.{are_filled, own_codes, same_lookups, lookup-cells, cells_filled}
 use Rattle.cell_layout.proofs.ImageRoomLemmas.{same_placed}
@@ -37,24 +37,24 @@ own_codes-append k rows more =
     ∙ map-append (λ (r : CodedRow). r.codes) (filter (λ (r : CodedRow). same_cell k r.classes) rows) (filter (λ (r : CodedRow). same_cell k r.classes) more)
 
 kept_filled : (columns : List Classes) (cells : List Cell) → All (IsCellRepr columns) cells → are_filled (map cell_image cells) ≡ true
-kept_filled columns [] kept = refl
-kept_filled columns (cell ∷ cells) kept =
-    and_from (nat_le 1 (length (cell_image cell).rows)) (are_filled (map cell_image cells)) (filled columns (cell_image cell) (All-head (IsCellRepr columns) cell cells kept).good)
-    (kept_filled columns cells (All-tail (IsCellRepr columns) cell cells kept))
+kept_filled columns [] repr = refl
+kept_filled columns (cell ∷ cells) repr =
+    and_from (nat_le 1 (length (cell_image cell).rows)) (are_filled (map cell_image cells)) (filled columns (cell_image cell) (All-head (IsCellRepr columns) cell cells repr).good)
+    (kept_filled columns cells (All-tail (IsCellRepr columns) cell cells repr))
 
 -- the rows of both
 pub added_placed : (columns : List Classes) (rows batch : List Row) (old mid new more : List Cell) (rest mid_rest new_rest more_rest : List Row) → IsSameButRoom old rest mid mid_rest → AreMerged mid more new [] → new_rest ≡ mid_rest ++ more_rest
     → ArePlaced columns rows old rest → ArePlaced columns batch more more_rest → ArePlaced columns (rows ++ batch) new new_rest
 added_placed columns rows batch old mid new more rest mid_rest new_rest more_rest same merged put standing added =
     let first = same_placed columns rows old mid rest mid_rest same standing in
-    let both = merged.kept columns first.kept added.kept in
+    let both = merged.repr columns first.repr added.repr in
     let n = length-append rows batch in
     let m = ap length put ∙ length-append mid_rest more_rest in
     let counted = merged.counted in
     let counted_first = first.counted in
     let counted_added = added.counted in
     record {
-      image = same_lookups (map cell_image new) (cells_of (coded_rows columns (rows ++ batch))) (subst Rising (sym (keys-kept new)) (rising-from (keys_of_cells new) merged.order))
+      image = same_lookups (map cell_image new) (cells_of (coded_rows columns (rows ++ batch))) (subst Rising (sym (keys-image new)) (rising-from (keys_of_cells new) merged.order))
           (rising-from (keys_in (cells_of (coded_rows columns (rows ++ batch)))) (cells_rise (coded_rows columns (rows ++ batch)))) (kept_filled columns new both.0) (cells_filled (coded_rows columns (rows ++ batch)))
           (λ k.
           sym (append-nil (lookup k (map cell_image new))) ∙ merged.found k
@@ -64,7 +64,7 @@ added_placed columns rows batch old mid new more rest mid_rest new_rest more_res
           ∙ ap (own_codes k) (sym (coded_rows-append columns rows batch))
           ∙ sym (lookup-cells k (coded_rows columns (rows ++ batch))));
       others = put ∙ (λ i. first.others i ++ added.others i) ∙ sym (filter-append (λ row. not (is_coded columns row)) rows batch);
-      kept = both.0;
+      repr = both.0;
       order = merged.order;
       counted = omega arith;
     }
@@ -73,8 +73,8 @@ added_placed columns rows batch old mid new more rest mid_rest new_rest more_res
 pub both_alike : (old mid more : List Cell) (rest mid_rest more_rest : List Row) → AreBothPlaced old rest more more_rest → IsSameButRoom old rest mid mid_rest → AreAlike mid more
 both_alike old mid more rest mid_rest more_rest both same = record {
   columns = both.columns;
-  standing = (same_placed both.columns both.rows old mid rest mid_rest same both.standing).kept;
-  added = both.added.kept;
+  standing = (same_placed both.columns both.rows old mid rest mid_rest same both.standing).repr;
+  added = both.added.repr;
 }
 
 pub both_rise : (old mid more : List Cell) (rest mid_rest more_rest : List Row) → AreBothPlaced old rest more more_rest → IsSameButRoom old rest mid mid_rest → rises cell_cmp (keys_of_cells mid) ≡ true

@@ -149,18 +149,18 @@ placed_valid decodes schema columns rows divided may =
     all-imply (fits schema) (λ row. length row == length columns)
     (λ row h. eq-eqb (length row) (length columns) (eqb-true (length row) (length schema.columns) (and_parts (length row == length schema.columns) _ h).0 ∙ sym as_many)) rows may.fit in
     let image = placed schema columns rows in
-    let kept = filter (is_coded columns) rows in
+    let coded_part = filter (is_coded columns) rows in
     let uncoded : Row → Bool = λ row. not (is_coded columns row) in
     let few = may.few in
-    let few_kept = length-filter-le (is_coded columns) rows in
+    let few_coded = length-filter-le (is_coded columns) rows in
     let few_rest = length-filter-le uncoded rows in
-    let as_coded = length-map kept (coded columns) in
+    let as_coded = length-map coded_part (coded columns) in
     let moved = placed-rearranged decodes image rows classes long in (
       seven (is_schema schema) (are_divided schema columns) (list_all (is_cell columns) image.cells) (rises cell_cmp (map (λ cell. cell.classes) image.cells))
           (list_all (is_rest_row image) image.rest) (nat_le (length image.rest) most_cell_rows) (are_keyed schema.key (rows_of image))
           may.allowed divided
-          (cells_valid columns (map (coded columns) kept) (all_placed decodes columns kept classes (whole_rows columns rows long)) (omega arith))
-          (cells_rise (map (coded columns) kept))
+          (cells_valid columns (map (coded columns) coded_part) (all_placed decodes columns coded_part classes (whole_rows columns rows long)) (omega arith))
+          (cells_rise (map (coded columns) coded_part))
           (all_both (fits schema) uncoded (filter uncoded rows) (all-part (fits schema) uncoded rows may.fit) (all-passing uncoded rows))
           (le-leb (length (filter uncoded rows)) most_cell_rows (omega arith))
           (keyed-rearranged schema.key rows (rows_of image) moved may.keyed),

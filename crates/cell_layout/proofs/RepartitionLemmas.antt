@@ -208,10 +208,10 @@ stands_placed finds image valid =
     let again = cells_again finds image image.cells classes has.cells in
     let some = all-imply (is_cell columns) (λ cell. nat_le 1 (length cell.rows)) (λ cell h. filled columns cell h) image.cells has.cells in
     let none = all-imply (is_rest_row image) (λ row. not (is_coded columns row)) (λ row h. (and_parts (fits image.schema row) (not (is_coded columns row)) h).1) image.rest has.rest in
-    let kept : filter (is_coded columns) (of_cells ++ image.rest) ≡ of_cells =
+    let coded_part : filter (is_coded columns) (of_cells ++ image.rest) ≡ of_cells =
     filter-append (is_coded columns) of_cells image.rest ∙ rw (all_pass (is_coded columns) of_cells again.0, none_pass (is_coded columns) image.rest none) (append-nil of_cells) in
     let cells : cells_of (map (coded columns) (filter (is_coded columns) (of_cells ++ image.rest))) ≡ image.cells =
-    ap (λ l. cells_of (map (coded columns) l)) kept ∙ ap cells_of again.1 ∙ cells_stand image.cells some has.rising in
+    ap (λ l. cells_of (map (coded columns) l)) coded_part ∙ ap cells_of again.1 ∙ cells_stand image.cells some has.rising in
     let rest : filter (λ row. not (is_coded columns row)) (of_cells ++ image.rest) ≡ image.rest =
     filter-append (λ row. not (is_coded columns row)) of_cells image.rest
     ∙ rw (

@@ -136,8 +136,8 @@ twice_here held keys row n count v new lt is none counts key number many =
 pub cell_key : (columns : List Classes) (cell : Cell) (row key : ℕ) (values : Classes) (classes : List ℕ) (code : ℕ) (v : Value) → IsCellRepr columns cell → row < cell.rows → key < length columns
     → values ≡ get_or columns key values → classes ≡ cell.classes → code ≡ get_or (row_of_codes cell.codes row) key 0 → decoded values (get_or classes key 0) code ≡ Some v
     → get_or (column_values (rows_in columns cell) key) row (Int (pos 0)) ≡ v
-cell_key columns cell row key values classes code v kept row_in lt is at here found =
-    let has = has_codes columns cell row kept row_in in
+cell_key columns cell row key values classes code v repr row_in lt is at here found =
+    let has = has_codes columns cell row repr row_in in
     let one : values ≡ get_or columns key [] = is ∙ get_or_default columns key values [] lt in
     let value = decoded_at columns cell row key v (Int (pos 0)) has lt (rw (one, at, here) at found) in
     let long = length-rows cell.codes cell.rows in

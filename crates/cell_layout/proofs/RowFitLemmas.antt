@@ -148,8 +148,8 @@ empty_valid decodes schema allowed =
     keyed None = refl
     keyed (Some k) = refl
 
-pub empty_kept : DecodesFound → (schema : Schema) (list : List Column) (columns : List Classes) (cells : List Cell) (rest : List Row) → is_schema schema ≡ true → list ≡ schema.columns → columns ≡ map (λ column. []) list → cells ≡ [] → rest ≡ [] → is_valid (image_of schema columns cells rest) ≡ true
-empty_kept decodes schema list columns cells rest allowed seen no_classes_yet no_cells no_rest = ap is_valid same ∙ empty_valid decodes schema allowed
+pub empty_image_valid : DecodesFound → (schema : Schema) (list : List Column) (columns : List Classes) (cells : List Cell) (rest : List Row) → is_schema schema ≡ true → list ≡ schema.columns → columns ≡ map (λ column. []) list → cells ≡ [] → rest ≡ [] → is_valid (image_of schema columns cells rest) ≡ true
+empty_image_valid decodes schema list columns cells rest allowed seen no_classes_yet no_cells no_rest = ap is_valid same ∙ empty_valid decodes schema allowed
   where
     same : image_of schema columns cells rest ≡ empty_image schema
     same =

@@ -17,7 +17,7 @@ use Rattle.cell_layout.specs.InsertRowRepr.{IsPut, IsPushed, IsFirst, rows_in_al
 use Rattle.cell_layout.specs.RowPartition.{ArePlaced}
 use Rattle.cell_layout.proofs.InsertRowLemmas.{row_placed, Rising-put}
 use Rattle.cell_layout.proofs.CellIndexLemmas.{rising-from, rises-from}
-use Rattle.cell_layout.proofs.InsertRowReprLemmas.{keys-kept, found_put, missing_put}
+use Rattle.cell_layout.proofs.InsertRowReprLemmas.{keys-image, found_put, missing_put}
 
 -- a fact that an answer without a fault brings
 pub on_ok : {A E P Q : Type 0} (r : Result A E) → (P → Q) → OnOk r P → OnOk r Q
@@ -25,7 +25,7 @@ on_ok (Ok x) f p = f p
 on_ok (Err e) f p = tt
 
 pub none_placed : (columns : List Classes) → ArePlaced columns [] [] []
-none_placed columns = record { image = refl; others = refl; kept = λ k d lt. absurd (omega arith); order = refl; counted = refl }
+none_placed columns = record { image = refl; others = refl; repr = λ k d lt. absurd (omega arith); order = refl; counted = refl }
 
 keep : {X : Type 0} (p : X → Bool) (xs : List X) (x : X) → p x ≡ true → filter p (xs ++ x ∷ []) ≡ filter p xs ++ x ∷ []
 keep p xs x e = filter-append p xs (x ∷ []) ∙ ap (λ l. filter p xs ++ l) (let one : filter p (x ∷ []) ≡ x ∷ [] = rw e refl in one)
@@ -42,7 +42,7 @@ coded_placed columns rows cells new rest row classes codes placed coded_row numb
     let front : List CodedRow = map (coded columns) (filter (is_coded columns) rows) in
     let more : map (coded columns) (filter (is_coded columns) (rows ++ row ∷ [])) ≡ map (coded columns) (filter (is_coded columns) rows) ++ coded columns row ∷ [] =
     ap (map (coded columns)) (keep (is_coded columns) rows row coded_row) ∙ map-append (coded columns) (filter (is_coded columns) rows) (row ∷ []) in
-    let rising : Rising (keys_in (map cell_image cells)) = subst Rising (sym (keys-kept cells)) (rising-from (keys_of_cells cells) placed.order) in
+    let rising : Rising (keys_in (map cell_image cells)) = subst Rising (sym (keys-image cells)) (rising-from (keys_of_cells cells) placed.order) in
     let before : Rising (keys_in (cells_of (map (coded columns) (filter (is_coded columns) rows)))) = subst (λ (l : List CellImage). Rising (keys_in l)) placed.image rising in
     let image = put.image ∙ (λ i. put_row (is i) (placed.image i)) ∙ sym (row_placed (map (coded columns) (filter (is_coded columns) rows)) (coded columns row) before) ∙ ap cells_of (sym more) in
     let after : Rising (keys_in (map cell_image new)) = subst (λ (l : List CellImage). Rising (keys_in l)) (sym put.image) (Rising-put (record { classes = classes; codes = codes }) (map cell_image cells) rising) in
@@ -52,8 +52,8 @@ coded_placed columns rows cells new rest row classes codes placed coded_row numb
     record {
       image = image;
       others = placed.others ∙ sym (leave (λ row. not (is_coded columns row)) rows row (ap not coded_row));
-      kept = put.kept;
-      order = rises-from (keys_of_cells new) (subst Rising (keys-kept new) after);
+      repr = put.repr;
+      order = rises-from (keys_of_cells new) (subst Rising (keys-image new) after);
       counted = omega arith;
     }
 
@@ -67,7 +67,7 @@ rest_placed columns rows cells rest more row placed uncoded pushed =
     record {
       image = placed.image ∙ ap (λ l. cells_of (map (coded columns) l)) (sym (leave (is_coded columns) rows row uncoded));
       others = pushed ∙ ap (λ l. l ++ row ∷ []) placed.others ∙ sym (keep (λ row. not (is_coded columns row)) rows row (ap not uncoded));
-      kept = placed.kept;
+      repr = placed.repr;
       order = placed.order;
       counted = omega arith;
     }
@@ -75,15 +75,15 @@ rest_placed columns rows cells rest more row placed uncoded pushed =
 -- the same as calls say it
 pub found_placed : (columns : List Classes) (old list new : List Cell) (at : ℕ) (classes keys codes tail : List ℕ) (r : Result (Unit {0}) AllocError) → All (IsCellRepr columns) old → rises cell_cmp (keys_of_cells old) ≡ true
     → rows_in_all old < MOST_ROWS → AreWithin columns classes codes (length columns) → list ≡ old → keys ≡ classes → tail ≡ codes → IsFound list keys at → OnOk r (IsPushed old new at tail) → OnOk r (IsPut columns old new classes codes)
-found_placed columns old list new at classes keys codes tail r kept up few w cells numbers last found pushed =
+found_placed columns old list new at classes keys codes tail r repr up few w cells numbers last found pushed =
     let here : IsFound old classes at = subst (λ k. IsFound old k at) numbers (subst (λ l. IsFound l keys at) cells found) in
-    on_ok r (λ p. found_put columns old new at classes codes kept up few w here (subst (IsPushed old new at) last p)) pushed
+    on_ok r (λ p. found_put columns old new at classes codes repr up few w here (subst (IsPushed old new at) last p)) pushed
 
 pub missing_placed : (columns : List Classes) (old list room new : List Cell) (at : ℕ) (cell : Cell) (classes keys codes : List ℕ) → All (IsCellRepr columns) old → AreWithin columns classes codes (length columns)
     → list ≡ old → keys ≡ classes → IsMissing list keys at → IsFirst columns cell classes codes → room ≡ old → new ≡ insert room at cell → IsPut columns old new classes codes
-missing_placed columns old list room new at cell classes keys codes kept w cells numbers missing first same put =
+missing_placed columns old list room new at cell classes keys codes repr w cells numbers missing first same put =
     let here : IsMissing old classes at = subst (λ k. IsMissing old k at) numbers (subst (λ l. IsMissing l keys at) cells missing) in
-    missing_put columns old new at cell classes codes kept w here first (put ∙ ap (λ l. insert l at cell) same)
+    missing_put columns old new at cell classes codes repr w here first (put ∙ ap (λ l. insert l at cell) same)
 
 -- an answer without a fault
 abbrev answer : Bool → Result Bool AllocError

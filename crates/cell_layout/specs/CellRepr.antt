@@ -51,7 +51,7 @@ pub record IsCellRepr (columns : List Classes) (cell : Cell) : Type 0 where
 pub record IsImageRepr (schema : Schema) (columns : List Classes) (cells : List Cell) (rest : List Row) (rows : ℕ) : Type 0 where
   pub each : length columns ≡ length schema.columns
   pub few : length columns ≤ MOST_COLUMNS
-  pub kept : All (IsCellRepr columns) cells
+  pub repr : All (IsCellRepr columns) cells
   pub order : IsTrue (rises cell_cmp (map (λ cell. cell.classes) cells))
   pub counted : rows ≡ sum_by (λ cell. cell.rows) cells + length rest
   pub most : rows ≤ most_image_rows

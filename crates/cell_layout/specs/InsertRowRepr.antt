@@ -1,4 +1,4 @@
--- What one more row does to cells that are kept. Source: this project's own.
+-- What one more row does to cells in memory. Source: this project's own.
 use Rattle.std.specs.Prelude.{◌≡◌, ◌≢◌, ◌+◌, ℕ, List, [], ◌∷◌, map, length, sum_by, slice_index_or, All}
 use Rattle.order_codes.specs.Dictionary.{Classes}
 use Rattle.cell_layout.specs.declared.cell.Cell.{Cell}
@@ -34,5 +34,5 @@ pub record IsFirst (columns : List Classes) (cell : Cell) (classes codes : List 
 -- cells with one more row
 pub record IsPut (columns : List Classes) (old new : List Cell) (classes codes : List ℕ) : Type 0 where
   pub image : map cell_image new ≡ put_row (record { classes = classes; codes = codes }) (map cell_image old)
-  pub kept : All (IsCellRepr columns) new
+  pub repr : All (IsCellRepr columns) new
   pub one_more : rows_in_all new ≡ rows_in_all old + 1

@@ -88,7 +88,7 @@ rows_under classes cell = cond (same_cell classes cell.classes) cell.rows []
 abbrev pub lookup : List ℕ → List CellImage → List (List ℕ)
 lookup classes cells = flat_map (rows_under classes) cells
 
--- cells that are kept for the same columns
+-- cells in memory for the same columns
 pub record AreAlike (cells more : List Cell) : Type 0 where
   pub columns : List Classes
   pub standing : All (IsCellRepr columns) cells
@@ -98,7 +98,7 @@ pub record AreAlike (cells more : List Cell) : Type 0 where
 pub record IsMergedIn (old new : List Cell) (cell : Cell) : Type 0 where
   pub order : IsTrue (rises cell_cmp (keys_of_cells new))
   pub found : (classes : List ℕ) → lookup classes (map cell_image new) ≡ lookup classes (map cell_image old) ++ rows_under classes (cell_image cell)
-  pub kept : (columns : List Classes) → All (IsCellRepr columns) old → IsCellRepr columns cell → All (IsCellRepr columns) new
+  pub repr : (columns : List Classes) → All (IsCellRepr columns) old → IsCellRepr columns cell → All (IsCellRepr columns) new
   pub counted : rows_in_all new ≡ rows_in_all old + cell.rows
   pub room : (classes : List ℕ) (rows : ℕ) → cell.classes ≢ classes → HasRoomFor old classes rows → HasRoomFor new classes rows
 
@@ -107,6 +107,6 @@ pub record AreMerged (old more now left : List Cell) : Type 0 where
   pub order : IsTrue (rises cell_cmp (keys_of_cells now))
   pub order_left : IsTrue (rises cell_cmp (keys_of_cells left))
   pub found : (classes : List ℕ) → lookup classes (map cell_image now) ++ lookup classes (map cell_image left) ≡ lookup classes (map cell_image old) ++ lookup classes (map cell_image more)
-  pub kept : (columns : List Classes) → All (IsCellRepr columns) old → All (IsCellRepr columns) more → All (IsCellRepr columns) now × All (IsCellRepr columns) left
+  pub repr : (columns : List Classes) → All (IsCellRepr columns) old → All (IsCellRepr columns) more → All (IsCellRepr columns) now × All (IsCellRepr columns) left
   pub counted : rows_in_all now + rows_in_all left ≡ rows_in_all old + rows_in_all more
   pub room : HaveRoomFor now left

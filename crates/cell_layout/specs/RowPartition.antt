@@ -1,4 +1,4 @@
--- Rows in the cells that are kept of them. Source: this project's own.
+-- Rows in the cells in memory of them. Source: this project's own.
 use Rattle.std.specs.Prelude.{◌≡◌, ◌≤◌, ◌+◌, ℕ, not, List, map, filter, length, All, IsTrue}
 use Rattle.blink_base.specs.Values.{Row}
 use Rattle.blink_lists.specs.Lists.{rises}
@@ -15,7 +15,7 @@ use Rattle.cell_layout.specs.InsertRowRepr.{rows_in_all}
 pub record ArePlaced (columns : List Classes) (rows : List Row) (cells : List Cell) (rest : List Row) : Type 0 where
   pub image : map cell_image cells ≡ cells_of (map (coded columns) (filter (is_coded columns) rows))
   pub others : rest ≡ filter (λ row. not (is_coded columns row)) rows
-  pub kept : All (IsCellRepr columns) cells
+  pub repr : All (IsCellRepr columns) cells
   pub order : IsTrue (rises cell_cmp (keys_of_cells cells))
   pub counted : rows_in_all cells + length rest ≡ length rows
 

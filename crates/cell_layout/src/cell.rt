@@ -54,7 +54,7 @@ impl Cell {
     }
 
     // The code of a row in a column.
-    #[tactic(auto, using(crate::proofs::CellReprLemmas::code_kept))]
+    #[tactic(auto, using(crate::proofs::CellReprLemmas::code_of_row))]
     pub(crate) fn code(&self, row: u64, column: usize) -> u32
         requires full { All (λ codes. length codes.0 ≡ self.now.rows) self.now.codes }
         requires column { column < length self.now.codes }

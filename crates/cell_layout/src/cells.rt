@@ -81,7 +81,7 @@ fn put_row<M: Ledger>(
     row: &RowCodes,
 ) -> Result<(), AllocError>
     requires columns { length dicts.now ≤ MOST_COLUMNS }
-    requires kept { All (IsCellRepr dicts.now) cells.old.0 }
+    requires repr { All (IsCellRepr dicts.now) cells.old.0 }
     requires order { IsTrue (rises cell_cmp (keys_of_cells cells.old.0)) }
     requires few { rows_in_all cells.old.0 < MOST_ROWS }
     requires within { AreWithin dicts.now row.now.classes.items row.now.codes.items (length dicts.now) }

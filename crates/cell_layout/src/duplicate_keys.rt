@@ -1,7 +1,7 @@
 // Keys that stand before.
 ghost use Rattle.std.specs.Prelude.{◌≡◌, ◌<◌, ◌≤◌, ◌+◌, ◌++◌, All, OnOk, IfSome, List as Listed, None, length};
 ghost use Rattle.std.specs.List.{flat_map};
-ghost use Rattle.blink_base.specs.declared.value.Value.{Value as Kept};
+ghost use Rattle.blink_base.specs.declared.value.Value.{Value as Held};
 ghost use Rattle.blink_histogram.specs.Ranks.{counted};
 ghost use Rattle.blink_histogram.specs.InternerRepr.{numbered_values};
 ghost use Rattle.column_classes.specs.ColumnClasses.{column_values};
@@ -37,7 +37,7 @@ pub(crate) fn keys_apart(
 }
 
 // The same behind the rows of cells and of rest.
-pub(crate) fn kept_keys_apart<M: Ledger>(
+pub(crate) fn cell_keys_apart<M: Ledger>(
     alloc: Global,
     key: Option<u32>,
     dicts: &[Dict<M>],
@@ -46,7 +46,7 @@ pub(crate) fn kept_keys_apart<M: Ledger>(
     batch: &[Row],
     decodes: &mut Steps<M>,
 ) -> Result<(), LayoutError>
-    requires kept { All (IsCellRepr dicts.now) cells.now }
+    requires repr { All (IsCellRepr dicts.now) cells.now }
     requires key { IfSome key (λ k. k < length dicts.now) }
     requires rest { IfSome key (λ k. All (λ row. k < length row) rest.now) }
     requires batch { IfSome key (λ k. All (λ row. k < length row) batch.now) }
@@ -69,10 +69,10 @@ fn number_cells<M: Ledger>(
     key: usize,
     decodes: &mut Steps<M>,
 ) -> Result<(), AllocError>
-    requires kept { All (IsCellRepr dicts.now) cells.now }
+    requires repr { All (IsCellRepr dicts.now) cells.now }
     requires key { key < length dicts.now }
     requires few { numbered_values keys.old + rows_in_all cells.now ≤ MOST_ROWS }
-    ensures values { OnOk result ((before : Listed Kept) → keys.old ≡ counted before → keys.new ≡ counted (before ++ column_values (flat_map (rows_in dicts.now) cells.now) key)) }
+    ensures values { OnOk result ((before : Listed Held) → keys.old ≡ counted before → keys.new ≡ counted (before ++ column_values (flat_map (rows_in dicts.now) cells.now) key)) }
     ensures number { OnOk result (numbered_values keys.new ≡ numbered_values keys.old + rows_in_all cells.now) }
 {
     for cell in cells {
@@ -89,10 +89,10 @@ fn number_cell<M: Ledger>(
     key: usize,
     decodes: &mut Steps<M>,
 ) -> Result<(), AllocError>
-    requires kept { IsCellRepr dicts.now cell.now }
+    requires repr { IsCellRepr dicts.now cell.now }
     requires key { key < length dicts.now }
     requires few { numbered_values keys.old + cell.now.rows ≤ MOST_ROWS }
-    ensures values { OnOk result ((before : Listed Kept) → keys.old ≡ counted before → keys.new ≡ counted (before ++ column_values (rows_in dicts.now cell.now) key)) }
+    ensures values { OnOk result ((before : Listed Held) → keys.old ≡ counted before → keys.new ≡ counted (before ++ column_values (rows_in dicts.now cell.now) key)) }
     ensures number { OnOk result (numbered_values keys.new ≡ numbered_values keys.old + cell.now.rows) }
 {
     let dict = &dicts[key];
@@ -108,7 +108,7 @@ fn number_cell<M: Ledger>(
 fn new_keys(keys: &mut Interner, batch: &[Row], key: usize) -> Result<(), LayoutError>
     requires within { All (λ row. key < length row) batch.now }
     requires few { numbered_values keys.old + length batch.now ≤ MOST_ROWS }
-    ensures { (held : Listed Kept) → keys.old ≡ counted held → IsRefusal result (duplicate_of (repeated_key held (column_values batch.now key))) }
+    ensures { (held : Listed Held) → keys.old ≡ counted held → IsRefusal result (duplicate_of (repeated_key held (column_values batch.now key))) }
 {
     for row in 0..batch.len() {
         let number = keys.number(&batch[row].as_slice()[key])?;

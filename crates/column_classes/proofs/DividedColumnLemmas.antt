@@ -43,10 +43,10 @@ divided-at rows n k d lt =
     get_or-map f (numbered (ranked_columns rows n)) k (0, []) d (omega arith)
     ∙ ap f (numbered-at 0 (ranked_columns rows n) k [] within ∙ (λ i. (zero_k i, value i)))
 
--- the columns that are divided, as they are kept
-pub chosen_kept : (rows : List Row) (n count : ℕ) (savings columns : List ℕ) → savings ≡ map (λ values. saving_of (counts_of values)) (ranked_columns rows n) → count ≡ length (chosen_columns savings) → columns ≡ padded 3 (chosen_columns savings)
+-- the columns that are divided, as calls say it
+pub chosen_is : (rows : List Row) (n count : ℕ) (savings columns : List ℕ) → savings ≡ map (λ values. saving_of (counts_of values)) (ranked_columns rows n) → count ≡ length (chosen_columns savings) → columns ≡ padded 3 (chosen_columns savings)
     → take count columns ≡ chosen_of (ranked_columns rows n)
-chosen_kept rows n count savings columns is long padded_columns =
+chosen_is rows n count savings columns is long padded_columns =
     (λ i. take (long i) (padded_columns i)) ∙ take-append_seam (chosen_columns savings) (replicate (3 - length (chosen_columns savings)) 0) ∙ ap chosen_columns is
 
 pub length-savings : (rows : List Row) (n : ℕ) → length (map (λ values. saving_of (counts_of values)) (ranked_columns rows n)) ≡ n
@@ -62,7 +62,7 @@ divided_more rows n k divided dict so_far more lt is here front pushed =
     pushed ∙ ap (λ l. l ++ dict ∷ []) front ∙ ap (λ x. take k (divided_columns (ranked_columns rows n)) ++ x ∷ []) (sym value)
     ∙ sym (take_more (divided_columns (ranked_columns rows n)) k [] (omega arith))
 
--- the sizes of its classes, as they are kept
+-- the sizes of its classes, as calls say it
 numbers-long : (it : RankedColumn) (values : List Counted) → IsRanked values it → length it.numbers ≡ length values
 numbers-long it values is = sym (length-map it.numbers (slice_get it.interner)) ∙ ap length is.found ∙ length-map values (λ (c : Counted). Some c)
 

@@ -1,4 +1,4 @@
--- What is kept of a column's values by rank. Source: this project's own.
+-- What stands for a column's values by rank. Source: this project's own.
 use Rattle.std.specs.Prelude.{◌≡◌, ◌<◌, ◌≤◌, ℕ, List, Some, map, length, slice_get, slice_index_or}
 use Rattle.freq_partition.specs.Division.{best_division, saving_of, padded}
 use Rattle.blink_histogram.specs.Ranks.{Counted, ranked}

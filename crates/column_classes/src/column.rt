@@ -1,6 +1,6 @@
 // The values of a column.
 ghost use Rattle.std.specs.Prelude.{◌≡◌, ◌<◌, ◌≤◌, ◌+◌, ◌++◌, All, IfOk, OnOk, List as Listed, length};
-ghost use Rattle.blink_base.specs.declared.value.Value.{Value as Kept};
+ghost use Rattle.blink_base.specs.declared.value.Value.{Value as Held};
 ghost use Rattle.blink_histogram.specs.Ranks.{counted};
 ghost use Rattle.blink_histogram.specs.InternerRepr.{numbered_values};
 ghost use Rattle.column_classes.specs.ColumnClasses.{column_values};
@@ -34,7 +34,7 @@ pub(crate) fn interned(
 pub fn number_column(interner: &mut Interner, rows: &[Row], column: usize) -> Result<(), AllocError>
     requires within { All (λ row. column < length row) rows.now }
     requires few { numbered_values interner.old + length rows.now ≤ MOST_ROWS }
-    ensures values { OnOk result ((before : Listed Kept) → interner.old ≡ counted before → interner.new ≡ counted (before ++ column_values rows.now column)) }
+    ensures values { OnOk result ((before : Listed Held) → interner.old ≡ counted before → interner.new ≡ counted (before ++ column_values rows.now column)) }
     ensures number { OnOk result (numbered_values interner.new ≡ numbered_values interner.old + length rows.now) }
 {
     for row in rows {

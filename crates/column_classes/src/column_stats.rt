@@ -30,7 +30,7 @@ impl RankedColumn {
     ghost use Rattle.blink_lists.specs.declared.limits.TheConstants.{MOST_ROWS};
     ghost use Rattle.column_classes.specs.ColumnClasses.{column_values, classes_if};
     ghost use Rattle.blink_histogram.specs.Ranks.{ranked};
-    ghost use Rattle.blink_base.specs.declared.value.Value.{Value as Kept};
+    ghost use Rattle.blink_base.specs.declared.value.Value.{Value as Held};
     ghost use Rattle.column_classes.specs.ColumnStats.{IsColumn, IsRanked};
 
     // Of a column of held rows and of a batch behind them.
@@ -66,7 +66,7 @@ impl RankedColumn {
         divided: bool,
     ) -> Result<Dict<M>, AllocError>
         requires { IsColumn self.now }
-        ensures { IfOk result (λ dict. (column : Listed Kept) → IsRanked (ranked column) self.now → dict ≡ classes_if divided (ranked column)) }
+        ensures { IfOk result (λ dict. (column : Listed Held) → IsRanked (ranked column) self.now → dict ≡ classes_if divided (ranked column)) }
     {
         match Dict::of(self.classes(alloc, divided)?) {
             Some(dict) => Ok(dict),
@@ -77,7 +77,7 @@ impl RankedColumn {
     // Its values in the classes of its best division, or in one class.
     fn classes(&self, alloc: Global, divided: bool) -> Result<List<List<Value>>, AllocError>
         requires { IsColumn self.now }
-        ensures { IfOk result (λ classes. (column : Listed Kept) → IsRanked (ranked column) self.now → classes ≡ classes_if divided (ranked column)) }
+        ensures { IfOk result (λ classes. (column : Listed Held) → IsRanked (ranked column) self.now → classes ≡ classes_if divided (ranked column)) }
     {
         let numbers = self.numbers.as_slice();
         if divided {

@@ -10,7 +10,7 @@ ghost use Rattle.cell_layout.specs.Valid.{is_valid};
 ghost use Rattle.blink_lists.specs.declared.limits.TheConstants.{MOST_ROWS};
 
 use crate::cells::{add_placed, place_rows};
-use crate::duplicate_keys::kept_keys_apart;
+use crate::duplicate_keys::cell_keys_apart;
 use crate::laws::{rows_added_are_kept, standing_rows_keep_their_places};
 use crate::{Image, LayoutError};
 use blink_base::{List, Row};
@@ -48,7 +48,7 @@ impl<M: Ledger> Image<M> {
         if exceed(self.rows, batch.len(), limit) {
             return Err(LayoutError::Rows);
         }
-        kept_keys_apart(
+        cell_keys_apart(
             alloc,
             self.schema.key,
             self.dicts.as_slice(),

@@ -89,7 +89,7 @@ fn decoded<M: Ledger>(
     row: u64,
     decodes: &mut Steps<M>,
 ) -> Result<Row, AllocError>
-    requires kept { IsCellRepr dicts.now cell.now }
+    requires repr { IsCellRepr dicts.now cell.now }
     requires row { row < cell.now.rows }
     ensures row { IfOk result (λ values. values ≡ decoded_row dicts.now cell.now.classes (row_of_codes cell.now.codes row)) }
     ensures decodes { decodes.new ≤ decodes.old + length dicts.now }

@@ -9,12 +9,12 @@ use Rattle.cell_layout.proofs.duplicate_keys.number_cell.Goals as goal
 
 pub decode-requires : goal.decode-requires
 decode-requires g c =
-    code_below c.args.dicts.now c.args.cell.now c.loop-row.row c.args.key c.index-dicts-key.result (get_or c.as_slice.result.now c.args.key 0) c.code-code.result c.requires.kept c.loop-row-test.true c.requires.key c.index-dicts-key.is
+    code_below c.args.dicts.now c.args.cell.now c.loop-row.row c.args.key c.index-dicts-key.result (get_or c.as_slice.result.now c.args.key 0) c.code-code.result c.requires.repr c.loop-row-test.true c.requires.key c.index-dicts-key.is
     (ap (λ l. get_or l c.args.key 0) c.as_slice.ensures) c.code-code.ensures
 
 pub loop-row-preserved : goal.loop-row-preserved
 loop-row-preserved g c =
-    let here = cell_key c.args.dicts.now c.args.cell.now c.loop-row.row c.args.key c.index-dicts-key.result c.as_slice.result.now c.code-code.result c.decode.result.now c.requires.kept c.loop-row-test.true c.requires.key c.index-dicts-key.is
+    let here = cell_key c.args.dicts.now c.args.cell.now c.loop-row.row c.args.key c.index-dicts-key.result c.as_slice.result.now c.code-code.result c.decode.result.now c.requires.repr c.loop-row-test.true c.requires.key c.index-dicts-key.is
     c.as_slice.ensures c.code-code.ensures c.decode.ensures.value in
     let long = length-keys (rows_in c.args.dicts.now c.args.cell.now) c.args.key in
     let rows = length-in c.args.dicts.now c.args.cell.now in

@@ -4,7 +4,7 @@ use Rattle.std.proofs.lemmas.List.{take_all}
 use Rattle.blink_histogram.specs.Ranks.{ranked}
 use Rattle.column_classes.specs.ColumnClasses.{column_values, divided_columns, ranked_columns}
 use Rattle.column_classes.specs.ColumnStats.{AreRanked, IsRanked}
-use Rattle.column_classes.proofs.DividedColumnLemmas.{chosen_kept, divided_more, length-divided, length-savings}
+use Rattle.column_classes.proofs.DividedColumnLemmas.{chosen_is, divided_more, length-divided, length-savings}
 use Rattle.column_classes.proofs.dicts.dictionaries.Goals as goal
 
 pub choose_columns-chosen-requires : goal.choose_columns-chosen-requires
@@ -18,7 +18,7 @@ pub loop-column-preserved : goal.loop-column-preserved
 loop-column-preserved g c =
     let are : AreRanked (c.args.held.now ++ c.args.batch.now) c.args.columns c.as_slice.result.now = rw c.as_slice.ensures.value c.in_ok-all.ensures in
     let savings = c.as_slice-2.ensures.value ∙ c.in_ok-savings.ensures (c.args.held.now ++ c.args.batch.now) c.args.columns are in
-    let chosen = chosen_kept (c.args.held.now ++ c.args.batch.now) c.args.columns c.choose_columns-chosen.result.count c.as_slice-2.result.now c.choose_columns-chosen.result.columns savings c.choose_columns-chosen.ensures.count
+    let chosen = chosen_is (c.args.held.now ++ c.args.batch.now) c.args.columns c.choose_columns-chosen.result.count c.as_slice-2.result.now c.choose_columns-chosen.result.columns savings c.choose_columns-chosen.ensures.count
     c.choose_columns-chosen.ensures.columns in
     let it : IsRanked (ranked (column_values (c.args.held.now ++ c.args.batch.now) c.loop-column.column)) c.index.result.now =
     subst (IsRanked (ranked (column_values (c.args.held.now ++ c.args.batch.now) c.loop-column.column))) (sym c.index.ensures) (c.in_ok-all.ensures.each c.loop-column.column c.index.result.now c.loop-column-test.true) in

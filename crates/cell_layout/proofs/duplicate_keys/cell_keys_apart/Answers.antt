@@ -4,7 +4,7 @@ use Rattle.column_classes.specs.ColumnClasses.{column_values}
 use Rattle.cell_layout.specs.Refusals.{duplicate_of, repeated_key, IsRefusal}
 use Rattle.cell_layout.specs.CellRepr.{rows_in}
 use Rattle.cell_layout.proofs.RepeatedKeyLemmas.{keys-append}
-use Rattle.cell_layout.proofs.duplicate_keys.kept_keys_apart.Goals as goal
+use Rattle.cell_layout.proofs.duplicate_keys.cell_keys_apart.Goals as goal
 
 pub returns-clause-refused : goal.returns-clause-refused
 returns-clause-refused g c =
