@@ -228,7 +228,7 @@ module _ {M : Type 0} where
             }
 
       -- rows are laid out anew as the definition says
-      pub remade : (new : List (Table M)) (d : Table M) → IsAddedAt true engine.tables new at [] d → IsMade (reorganized tables name) (record engine { tables = new })
+      pub remade : (new : List (Table M)) (d : Table M) → IsAddedAt Anew engine.tables new at [] d → IsMade (reorganized tables name) (record engine { tables = new })
       remade new d a =
           let held = finding.held in
           let same : added_to Anew held [] ≡ record { name = held.name; rows = held.rows; image = laid held.image.schema (rows_of held.image) } =
@@ -236,7 +236,7 @@ module _ {M : Type 0} where
           record {
             tables = with_table tables (added_to Anew held []);
             given = ap (reorganize_found tables name) finding.is.found ∙ ap (λ h. Ok (with_table tables h)) (sym same);
-            kept = is_engine true new [] d a (let few = was_sound.few in omega arith);
+            kept = is_engine Anew new [] d a (let few = was_sound.few in omega arith);
           }
 
       pub never : (why : LayoutError) (d : Table M) → (why ≢ Memory → refusal_of engine.limits.rows (get_or engine.tables at d).image [] ≡ Some why) → IsCause (layout_error why) (reorganized tables name)
@@ -283,7 +283,7 @@ module _ {M : Type 0} where
     pub never_there : (why : LayoutError) (batch : List Row) → batch ≡ [] → ((d : Table M) → why ≢ Memory → refusal_of engine.limits.rows (get_or engine.tables at d).image batch ≡ Some why) → IsCause (layout_error why) (reorganized tables name)
     never_there why batch empty refusal = never tables engine name of at is why here (rw empty at (refusal here))
 
-    pub remade_there : (new : List (Table M)) (batch : List Row) → batch ≡ [] → ((d : Table M) → IsAddedAt true engine.tables new at batch d) → IsMade (reorganized tables name) (record engine { tables = new })
+    pub remade_there : (new : List (Table M)) (batch : List Row) → batch ≡ [] → ((d : Table M) → IsAddedAt Anew engine.tables new at batch d) → IsMade (reorganized tables name) (record engine { tables = new })
     remade_there new batch empty a = remade tables engine name of at is new here (rw empty at (a here))
 
     pub taken_there : (new : List (Table M)) → new ≡ remove engine.tables at → IsMade (dropped tables name) (record engine { tables = new })

@@ -12,6 +12,7 @@ use Rattle.star_sql.specs.declared.ast.Literal.TheVariants as literal
 use Rattle.star_engine.specs.State.{Tables}
 use Rattle.star_engine.specs.Changes.{created, dropped, added, new_table, schema_of}
 use Rattle.star_engine.specs.InsertedRows.{written}
+use Rattle.star_engine.specs.declared.growth.Growth.TheVariants.{Standing}
 
 -- columns of whole numbers
 abbrev pub int_columns : List (List ℕ) → List ColumnDef
@@ -54,9 +55,9 @@ key_rows keys = map (λ k. Int (pos k) ∷ []) keys
 -- the number of rows is told before a key that stands twice
 abbrev pub AddsTold : Type 0
 AddsTold =
-    (added (record { rows = 3; blocks = 1 }) false one_table (codes "t") (λ schema. Ok (key_rows (1 ∷ 2 ∷ 1 ∷ []))) ≡ Err (refusal.DuplicateKey 3))
-    × (added (record { rows = 2; blocks = 1 }) false one_table (codes "t") (λ schema. Ok (key_rows (1 ∷ 2 ∷ 1 ∷ []))) ≡ Err refusal.TooManyRows)
-    × (added (record { rows = 2; blocks = 1 }) false one_table (codes "u") (λ schema. Ok []) ≡ Err (refusal.UnknownTable (codes "u")))
+    (added (record { rows = 3; blocks = 1 }) Standing one_table (codes "t") (λ schema. Ok (key_rows (1 ∷ 2 ∷ 1 ∷ []))) ≡ Err (refusal.DuplicateKey 3))
+    × (added (record { rows = 2; blocks = 1 }) Standing one_table (codes "t") (λ schema. Ok (key_rows (1 ∷ 2 ∷ 1 ∷ []))) ≡ Err refusal.TooManyRows)
+    × (added (record { rows = 2; blocks = 1 }) Standing one_table (codes "u") (λ schema. Ok []) ≡ Err (refusal.UnknownTable (codes "u")))
 
 -- a whole number and a date
 abbrev pub two_columns : Schema
