@@ -15,10 +15,10 @@ ghost use Rattle.star_engine.specs.EngineRepr.{table_of, IsEngineOf, HasTables, 
 ghost use Rattle.star_engine.specs.Soundness.{AreLimits};
 ghost use Rattle.star_engine.specs.InsertedRows.{written};
 
-use crate::{EngineError, Growth};
 use crate::batch::{Source, rows_from};
 use crate::columns::{are_bad_columns, schema_of};
 use crate::table::{Table, add_at, place_of, remove_at};
+use crate::{EngineError, Growth};
 use blink_base::{Limits, List, MOST_TABLES, Refusal, Row, Word};
 use cell_layout::Image;
 use star_sql::{ColumnDef, Literal};
@@ -285,7 +285,13 @@ impl<M: Ledger> Engine<M> {
         ensures kept { OnErr result (self.new ≡ self.old) }
         ensures decodes { IsKeyless self.old name.now → decodes.new ≡ decodes.old }
     {
-        self.add(alloc, name, Source::Written(rows), Growth::Standing, decodes)
+        self.add(
+            alloc,
+            name,
+            Source::Written(rows),
+            Growth::Standing,
+            decodes,
+        )
     }
 
     /// Lays the rows of a table's image out anew. REORGANIZE TABLE.
@@ -308,7 +314,15 @@ impl<M: Ledger> Engine<M> {
             Some(at) => {
                 let limit = self.limits.rows;
                 let batch = List::new(alloc);
-                add_at(alloc, &mut self.tables, at, Growth::Anew, limit, &batch, decodes)?;
+                add_at(
+                    alloc,
+                    &mut self.tables,
+                    at,
+                    Growth::Anew,
+                    limit,
+                    &batch,
+                    decodes,
+                )?;
                 Ok(())
             }
             None => Err(unknown(alloc, name)),
