@@ -7,7 +7,7 @@ use Rattle.std.proofs.lemmas.List.{length-map, length-append, map-append}
 use Rattle.std.proofs.lemmas.List.Elements.{All-map, All-filter, All-append, All-cons, All-nil}
 use Rattle.blink_base.specs.declared.limits.Limits.{Limits}
 use Rattle.blink_lists.specs.Lists.{are_distinct}
-use Rattle.cell_layout.proofs.Passed.{distinct-filter}
+use Rattle.blink_lists.proofs.GroupLemmas.{distinct-filter}
 use Rattle.blink_lists.proofs.DistinctLemmas.{length-filter-le}
 use Rattle.star_engine.specs.State.{AcceptedTable, Tables, with_table, without_table, and_table}
 use Rattle.blink_base.specs.declared.limits.TheConstants.{MOST_TABLES}

@@ -6,7 +6,7 @@ use Rattle.star_engine.proofs.describe.cell_lines.Goals as goal
 
 pub loop-cell-preserved : goal.loop-cell-preserved
 loop-cell-preserved g c =
-    let count = c.cell_count.ensures in
+    let count = c.cell_count-cell-end.ensures in
     let more = cells_more c.args.image.now c.loop-cell.cell (omega arith) in
     let line = c.in_ok-cell_line.ensures in
     let pushed = c.in_ok-push.ensures.ok in
@@ -15,5 +15,5 @@ loop-cell-preserved g c =
 
 pub returns : goal.returns
 returns g c =
-    let count = c.cell_count.ensures in
+    let count = c.cell_count-cell-end.ensures in
     c.loop-cell.invariant ∙ ap (map (cell_line c.args.image.now)) (take_all c.loop-cell.cell c.args.image.now.cells (omega arith))
