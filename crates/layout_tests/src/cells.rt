@@ -1,5 +1,5 @@
 // Images.
-ghost use Rattle.std.specs.Prelude.{◌≡◌, ◌<◌, ◌≤◌, IfOk, IsTrue};
+ghost use Rattle.std.specs.Prelude.{◌≡◌, ◌<◌, ◌≤◌, IfOk, IsTrue, None as Nothing};
 ghost use Rattle.std.specs.List.{list_all};
 ghost use Rattle.blink_base.specs.RowFits.{fits, is_schema};
 ghost use Rattle.cell_layout.specs.Valid.{MayHold};
@@ -28,7 +28,8 @@ fn number_column(alloc: Global, name: &str) -> Result<Column, AllocError>
 }
 
 fn plain_schema(alloc: Global) -> Result<Schema, AllocError>
-    ensures { IfOk result (λ schema. IsTrue (is_schema schema)) }
+    ensures allowed { IfOk result (λ schema. IsTrue (is_schema schema)) }
+    ensures plain { IfOk result (λ schema. schema.key ≡ Nothing) }
 {
     let mut columns = List::new(alloc);
     columns.push(number_column(alloc, "a")?)?;
@@ -294,9 +295,9 @@ fn rows_are_read(rt: HostRuntime) -> Result<(), Fail> {
     Ok(())
 }
 
-// The banks of so many columns of this width, and the blocks that so many rows of them take.
-fn blocks_of(alloc: Global, widths: &[u8], rows: u64) -> Result<(usize, u64), AllocError> {
-    let plan = BankPlan::of(alloc, widths)?;
+// The banks of twenty columns of 23 bits, and the blocks that so many rows of them take.
+fn blocks_of(alloc: Global, rows: u64) -> Result<(usize, u64), AllocError> {
+    let plan = BankPlan::of(alloc, &[23; 20])?;
     let banks = plan.banks();
     let cell = Cell {
         classes: List::new(alloc),
@@ -313,6 +314,6 @@ fn blocks_of(alloc: Global, widths: &[u8], rows: u64) -> Result<(usize, u64), Al
 
 #[test]
 fn wide_columns_take_a_bank_each(rt: HostRuntime) -> Result<(), Fail> {
-    assert_eq!(rt; blocks_of(rt.alloc(), &[23; 20], 1025)?, (20, 160));
+    assert_eq!(rt; blocks_of(rt.alloc(), 1025)?, (20, 160));
     Ok(())
 }
