@@ -1,2 +1,5 @@
 //! Tests of values, of texts and of the outside: what their contracts leave open. It has no code of its own.
 #![tactic(auto)]
+
+#[cfg(test)]
+mod edge;
