@@ -63,13 +63,21 @@ pub record Asks (limits : Limits) (stay : Bool) (state : State) (texts : List By
   pub said : Said
   pub parts : texts ≡ done ++ text ∷ left
   pub runs : Runs limits stay state done outcomes
-  pub kept : is_passed_over text ≡ false
+  pub spoken : is_passed_over text ≡ false
   pub says : Says text said
   pub asks : piece_asks_store (left_by state outcomes).tables said ≡ true
 
 -- the same of the pieces of a script
 abbrev pub ScriptAsks : Limits → Bool → Files → Bytes → List Outcome → Type 0
 ScriptAsks limits stay files script outcomes = Asks limits stay (start files) (piece_texts script) outcomes
+
+-- no statement of the pieces asks the store, whatever the statements before it find
+abbrev pub NeverAsks : Limits → Bool → State → List Bytes → Type 0
+NeverAsks limits stay state texts = (outcomes : List Outcome) → ¬ (Asks limits stay state texts outcomes)
+
+-- no statement of a script asks the store
+abbrev pub ScriptNeverAsks : Limits → Bool → Files → Bytes → Type 0
+ScriptNeverAsks limits stay files script = NeverAsks limits stay (start files) (piece_texts script)
 
 -- The law that a script over a store that tells its files has one list of outcomes.
 abbrev pub RunsOneWay : Type 0

@@ -1,18 +1,17 @@
 // The program.
-ghost use Rattle.std.specs.Prelude.{◌≡◌, ◌≤◌, ◌<◌, ℕ, Bool, List, Some, is_some, length, map, string_bytes};
+ghost use Rattle.std.specs.Prelude.{◌≡◌, ◌≢◌, ◌≤◌, ◌<◌, ℕ, Bool, List, Some, is_some, length, map, string_bytes};
 ghost use Rattle.report_text.specs.Texts.{usage_bytes};
-ghost use Rattle.blink_edge.specs.Causes.{Rose};
 ghost use Rattle.blink_base.specs.declared.limits.TheConstants.{LONGEST_INPUT};
 ghost use Rattle.star_engine.specs.State.{Files};
 ghost use Rattle.blink_run.specs.Program.{asked_by, nothing_known, Told, Tells};
-ghost use Rattle.blink_run.specs.Ends.{Ends, IsComplete, Gives, AreFiles, AreKnown, AsksNothing, IsAsked, outside, stream_view, store_view};
+ghost use Rattle.blink_run.specs.Ends.{Ends, IsComplete, EndsAtFault, Gives, AreFiles, AreKnown, AsksNothing, IsAsked, NeverAsked, outside, stream_view, store_view};
 ghost use Rattle.blink_run.specs.Request.{asked_of, IsAllowed};
 
 use crate::Status;
+use crate::args::Request;
 use crate::count::answer_count;
-use crate::lines::USAGE;
+use crate::output::USAGE;
 use crate::script::answer_script;
-use crate::words::Request;
 use blink_base::LONGEST_INPUT;
 use blink_edge::{Failed, ReadError, Sink, Source, Store, Taken, read_all, write_all};
 use std::alloc::Global;
@@ -24,6 +23,7 @@ use word_pool::{Ledger, Steps, Tally};
 // Prints how the program is used. It takes no memory.
 fn answer_usage<W: Sink>(output: &mut W) -> Status
     ensures ends { (stay : Bool) (files : Files) (input : List ℕ) → Gives nothing_known stay files input (stream_view W.given W.faults output.old) (stream_view W.given W.faults output.new) result }
+    ensures quiet { result ≢ Status.WriteFault → W.faults output.new ≡ W.faults output.old }
     ensures later { W.faults output.old ≤ W.faults output.new }
     ensures sure { length usage_bytes ≤ W.sure_room output.old → W.faults output.new ≡ W.faults output.old }
 {
@@ -46,13 +46,15 @@ fn answer<M: Ledger, W: Sink, S: Store>(
     requires allowed { IsAllowed request }
     ensures ends { (files : Files) → AreFiles (S.files store.old) files → Gives (asked_of request.entry) (is_some (S.files store.old)) files input.now
         (stream_view W.given W.faults output.old) (stream_view W.given W.faults output.new) result }
+    ensures quiet { result ≢ Status.WriteFault → W.faults output.new ≡ W.faults output.old }
     ensures later { W.faults output.old ≤ W.faults output.new }
     ensures sure { (files : Files) (told : Told) → AreKnown (asked_of request.entry) (S.files store.old) files
         → Tells (asked_of request.entry) (is_some (S.files store.old)) files input.now told
         → length told.printed ≤ W.sure_room output.old → W.faults output.new ≡ W.faults output.old }
-    ensures store { IsAsked S.files S.faults S.never_fails store.old store.new }
+    ensures store { IsAsked S.files S.faults S.never_fails (result ≡ Status.StoreFault) store.old store.new }
     ensures kept { AsksNothing (asked_of request.entry) → store.new ≡ store.old }
-    ensures rose { result ≡ Status.StoreFault → Rose (S.faults store.old) (S.faults store.new) }
+    ensures unasked { (files : Files) → AreFiles (S.files store.old) files
+        → NeverAsked (asked_of request.entry) (is_some (S.files store.old)) files input.now → store.new ≡ store.old }
 {
     match request {
         Request::Run(limits) => answer_script(alloc, limits, input, output, store, decodes),
@@ -62,10 +64,10 @@ fn answer<M: Ledger, W: Sink, S: Store>(
 }
 
 // Runs the program, and counts the codes that are decoded on the ledger of a blank.
-fn counted<N: ledger::Ledger, R: Source, W: Sink, S: Store>(
+fn run_on_ledger<N: ledger::Ledger, R: Source, W: Sink, S: Store>(
     alloc: Global,
     blank: Blank,
-    words: &[String],
+    args: &[String],
     input: &mut R,
     output: &mut W,
     store: &mut S,
@@ -73,25 +75,30 @@ fn counted<N: ledger::Ledger, R: Source, W: Sink, S: Store>(
     requires name { blank.name ≡ N.name }
     requires parts { blank.parts ≡ N.parts }
     requires some { 0 < blank.parts }
-    ensures ends { Ends (asked_by (map string_bytes words.now))
+    ensures ends { Ends (asked_by (map string_bytes args.now))
         (outside (stream_view R.left R.faults input.old) (stream_view W.given W.faults output.old) (store_view S.files S.faults store.old))
         (outside (stream_view R.left R.faults input.new) (stream_view W.given W.faults output.new) (store_view S.files S.faults store.new)) result }
-    ensures complete { IsComplete (asked_by (map string_bytes words.now))
+    ensures complete { IsComplete (asked_by (map string_bytes args.now))
         (outside (stream_view R.left R.faults input.old) (stream_view W.given W.faults output.old) (store_view S.files S.faults store.old))
         (outside (stream_view R.left R.faults input.new) (stream_view W.given W.faults output.new) (store_view S.files S.faults store.new)) result }
-    ensures store { IsAsked S.files S.faults S.never_fails store.old store.new }
-    ensures store_kept { AsksNothing (asked_by (map string_bytes words.now)) → store.new ≡ store.old }
-    ensures source_kept { asked_by (map string_bytes words.now) ≡ nothing_known → input.new ≡ input.old }
+    ensures first_fault { EndsAtFault
+        (outside (stream_view R.left R.faults input.old) (stream_view W.given W.faults output.old) (store_view S.files S.faults store.old))
+        (outside (stream_view R.left R.faults input.new) (stream_view W.given W.faults output.new) (store_view S.files S.faults store.new)) result }
+    ensures store { IsAsked S.files S.faults S.never_fails (result ≡ Status.StoreFault) store.old store.new }
+    ensures store_kept { AsksNothing (asked_by (map string_bytes args.now)) → store.new ≡ store.old }
+    ensures unasked { (bytes : List ℕ) (files : Files) → R.left input.old ≡ Some bytes → AreFiles (S.files store.old) files
+        → NeverAsked (asked_by (map string_bytes args.now)) (is_some (S.files store.old)) files bytes → store.new ≡ store.old }
+    ensures source_kept { asked_by (map string_bytes args.now) ≡ nothing_known → input.new ≡ input.old }
     ensures source_later { R.faults input.old ≤ R.faults input.new }
     ensures sink_later { W.faults output.old ≤ W.faults output.new }
     ensures source_sure { R.never_fails input.old → R.faults input.new ≡ R.faults input.old }
     ensures sink_sure { (bytes : List ℕ) (files : Files) (told : Told) → R.left input.old ≡ Some bytes
-        → AreKnown (asked_by (map string_bytes words.now)) (S.files store.old) files
-        → Tells (asked_by (map string_bytes words.now)) (is_some (S.files store.old)) files bytes told
+        → AreKnown (asked_by (map string_bytes args.now)) (S.files store.old) files
+        → Tells (asked_by (map string_bytes args.now)) (is_some (S.files store.old)) files bytes told
         → length told.printed ≤ W.sure_room output.old → W.faults output.new ≡ W.faults output.old }
 {
     let mut decodes: Steps<Tally<N>> = Steps::new(Tally::new(blank));
-    let request = Request::of_words(words);
+    let request = Request::of_args(args);
     if let Request::Unknown = request {
         return answer(alloc, request, &[], output, store, &mut decodes);
     }
@@ -139,11 +146,16 @@ pub fn run<R: Source, W: Sink, S: Store>(
     ensures complete { IsComplete (asked_by (map string_bytes words.now))
         (outside (stream_view R.left R.faults input.old) (stream_view W.given W.faults output.old) (store_view S.files S.faults store.old))
         (outside (stream_view R.left R.faults input.new) (stream_view W.given W.faults output.new) (store_view S.files S.faults store.new)) result }
+    ensures first_fault { EndsAtFault
+        (outside (stream_view R.left R.faults input.old) (stream_view W.given W.faults output.old) (store_view S.files S.faults store.old))
+        (outside (stream_view R.left R.faults input.new) (stream_view W.given W.faults output.new) (store_view S.files S.faults store.new)) result }
 
     // The store keeps the files that it tells, and for words that ask for no script it is as it was; for words in no stated
     // form so is the source.
-    ensures store { IsAsked S.files S.faults S.never_fails store.old store.new }
+    ensures store { IsAsked S.files S.faults S.never_fails (result ≡ Status.StoreFault) store.old store.new }
     ensures store_kept { AsksNothing (asked_by (map string_bytes words.now)) → store.new ≡ store.old }
+    ensures unasked { (bytes : List ℕ) (files : Files) → R.left input.old ≡ Some bytes → AreFiles (S.files store.old) files
+        → NeverAsked (asked_by (map string_bytes words.now)) (is_some (S.files store.old)) files bytes → store.new ≡ store.old }
     ensures source_kept { asked_by (map string_bytes words.now) ≡ nothing_known → input.new ≡ input.old }
 
     // No count of faults falls, and none rises where no call fails and there is room for all that is told.
@@ -155,5 +167,5 @@ pub fn run<R: Source, W: Sink, S: Store>(
         → Tells (asked_by (map string_bytes words.now)) (is_some (S.files store.old)) files bytes told
         → length told.printed ≤ W.sure_room output.old → W.faults output.new ≡ W.faults output.old }
 {
-    counted::<Brand, R, W, S>(alloc, Blank::new(1), words, input, output, store)
+    run_on_ledger::<Brand, R, W, S>(alloc, Blank::new(1), words, input, output, store)
 }

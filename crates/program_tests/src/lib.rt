@@ -1,2 +1,5 @@
 //! Tests of the grammar, of the tables by name and of the program: what their contracts leave open. It has no code of its own.
 #![tactic(auto)]
+
+#[cfg(test)]
+mod run;

@@ -1,4 +1,4 @@
-// The words of the command line.
+// The arguments.
 ghost use Rattle.std.specs.Prelude.{◌≡◌, map, string_bytes};
 ghost use Rattle.blink_base.specs.ReadValue.{whole_number};
 ghost use Rattle.blink_run.specs.Options.{limits_of};
@@ -15,14 +15,14 @@ pub(crate) struct Bounds<'a> {
     pub(crate) high: i64,
 }
 
-// What the words ask for.
+// What the arguments ask for.
 #[derive(Clone, Copy)]
 pub(crate) enum Request<'a> {
     // The answers to a script.
     Run(Limits),
     // How many values of a column lie between two bounds.
     Count(Bounds<'a>),
-    // The words are in no stated form.
+    // The arguments are in no stated form.
     Unknown,
 }
 
@@ -51,23 +51,23 @@ impl<'a> Request<'a> {
         }
     }
 
-    // The count that the words behind `range` ask for.
-    fn range(words: &'a [String]) -> Request<'a>
-        ensures asked { asked_of result ≡ count_form (map string_bytes words.now) }
+    // The count that the arguments behind `range` ask for.
+    fn range(args: &'a [String]) -> Request<'a>
+        ensures asked { asked_of result ≡ count_form (map string_bytes args.now) }
         ensures allowed { IsAllowed result }
     {
-        match words {
+        match args {
             [column, low, high] => Request::count(column.as_str(), low.as_str(), high.as_str()),
             _ => Request::Unknown,
         }
     }
 
-    // What the words ask for. It takes no memory.
-    pub(crate) fn of_words(words: &'a [String]) -> Request<'a>
-        ensures asked { asked_of result ≡ asked_by (map string_bytes words.now) }
+    // What the arguments ask for. It takes no memory.
+    pub(crate) fn of_args(args: &'a [String]) -> Request<'a>
+        ensures asked { asked_of result ≡ asked_by (map string_bytes args.now) }
         ensures allowed { IsAllowed result }
     {
-        let [verb, rest @ ..] = words else {
+        let [verb, rest @ ..] = args else {
             return Request::Unknown;
         };
         if verb.as_str() == "run" {

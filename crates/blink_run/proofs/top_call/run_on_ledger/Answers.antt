@@ -4,64 +4,70 @@ use Rattle.blink_base.specs.declared.limits.TheConstants.{LONGEST_INPUT}
 use Rattle.blink_run.specs.Ends.{NothingGiven, outside, stream_view, store_view}
 use Rattle.blink_run.specs.Program.{nothing_known}
 use Rattle.blink_run.specs.Request.{asked_of}
-use Rattle.blink_run.proofs.EndLemmas.{files_told, are_told, nothing_read, read_whole, known_reads, ends_by, complete_by, input_is}
-use Rattle.blink_run.proofs.top_call.counted.Goals as goal
+use Rattle.blink_run.proofs.EndLemmas.{files_in, are_told, nothing_read, read_whole, known_reads, ends_by, complete_by, input_is}
+use Rattle.blink_run.proofs.top_call.run_on_ledger.Goals as goal
 
 pub returns-in-Unknown-clause-ends : goal.returns-in-Unknown-clause-ends
 returns-in-Unknown-clause-ends g c =
-    let held = g.S.Store.files c.args.store.now in
-    let files = files_told held in
+    let told_files = g.S.Store.files c.args.store.now in
+    let files = files_in told_files in
     let source = stream_view g.R.Source.left g.R.Source.faults c.args.input.now in
     let old = outside source (stream_view g.W.Sink.given g.W.Sink.faults c.args.output.now) (store_view g.S.Store.files g.S.Store.faults c.args.store.now) in
     let new = outside source (stream_view g.W.Sink.given g.W.Sink.faults c.answer.new.output) (store_view g.S.Store.files g.S.Store.faults c.answer.new.store) in
-    let gives = rw c.in-Unknown.is at (c.answer.ensures.ends files (are_told held)) in
-    rw (← c.in-Unknown.ensures.asked) (ends_by nothing_known old new [] files c.answer.result (nothing_read source) (are_told held) c.answer.ensures.rose gives)
+    let gives = rw c.in-Unknown.is at (c.answer.ensures.ends files (are_told told_files)) in
+    rw (← c.in-Unknown.ensures.asked) (ends_by nothing_known old new [] files c.answer.result (nothing_read source) (are_told told_files) c.answer.ensures.store.rose gives)
 
 pub returns-in-Unknown-clause-complete : goal.returns-in-Unknown-clause-complete
 returns-in-Unknown-clause-complete g c =
-    let held = g.S.Store.files c.args.store.now in
-    let files = files_told held in
+    let told_files = g.S.Store.files c.args.store.now in
+    let files = files_in told_files in
     let source = stream_view g.R.Source.left g.R.Source.faults c.args.input.now in
     let old = outside source (stream_view g.W.Sink.given g.W.Sink.faults c.args.output.now) (store_view g.S.Store.files g.S.Store.faults c.args.store.now) in
     let new = outside source (stream_view g.W.Sink.given g.W.Sink.faults c.answer.new.output) (store_view g.S.Store.files g.S.Store.faults c.answer.new.store) in
-    let gives = rw c.in-Unknown.is at (c.answer.ensures.ends files (are_told held)) in
-    rw (← c.in-Unknown.ensures.asked) (complete_by nothing_known old new files [] c.answer.result c.answer.ensures.rose gives)
+    let gives = rw c.in-Unknown.is at (c.answer.ensures.ends files (are_told told_files)) in
+    rw (← c.in-Unknown.ensures.asked) (complete_by nothing_known old new files [] c.answer.result c.answer.ensures.store.rose gives)
 
 pub returns-in-Ok-Whole-clause-ends : goal.returns-in-Ok-Whole-clause-ends
 returns-in-Ok-Whole-clause-ends g c =
-    let held = g.S.Store.files c.args.store.now in
-    let files = files_told held in
-    let asked = asked_of c.of_words-request.result in
+    let told_files = g.S.Store.files c.args.store.now in
+    let files = files_in told_files in
+    let asked = asked_of c.of_args-request.result in
     let input = c.as_slice.result.now in
     let old = outside (stream_view g.R.Source.left g.R.Source.faults c.args.input.now) (stream_view g.W.Sink.given g.W.Sink.faults c.args.output.now) (store_view g.S.Store.files g.S.Store.faults c.args.store.now) in
     let new = outside (stream_view g.R.Source.left g.R.Source.faults c.read_all.new.source) (stream_view g.W.Sink.given g.W.Sink.faults c.answer-in-Ok-Whole.new.output) (store_view g.S.Store.files g.S.Store.faults c.answer-in-Ok-Whole.new.store) in
-    let reads = known_reads c.of_words-request.result c.in_default.not-Unknown in
+    let reads = known_reads c.of_args-request.result c.in_default.not-Unknown in
     let whole = rw (← c.as_slice.ensures.value) at (c.in-Ok-Whole.ensures.whole (rw c.in-Ok-Whole.field-0-is refl)) in
-    rw (← c.of_words-request.ensures.asked)
-    (ends_by asked old new input files c.answer-in-Ok-Whole.result (read_whole asked old.source new.source input reads whole) (are_told held) c.answer-in-Ok-Whole.ensures.rose (c.answer-in-Ok-Whole.ensures.ends files (are_told held)))
+    rw (← c.of_args-request.ensures.asked)
+    (ends_by asked old new input files c.answer-in-Ok-Whole.result (read_whole asked old.source new.source input reads whole) (are_told told_files) c.answer-in-Ok-Whole.ensures.store.rose (c.answer-in-Ok-Whole.ensures.ends files (are_told told_files)))
 
 pub returns-in-Ok-Whole-clause-complete : goal.returns-in-Ok-Whole-clause-complete
 returns-in-Ok-Whole-clause-complete g c =
-    let held = g.S.Store.files c.args.store.now in
-    let files = files_told held in
-    let asked = asked_of c.of_words-request.result in
+    let told_files = g.S.Store.files c.args.store.now in
+    let files = files_in told_files in
+    let asked = asked_of c.of_args-request.result in
     let old = outside (stream_view g.R.Source.left g.R.Source.faults c.args.input.now) (stream_view g.W.Sink.given g.W.Sink.faults c.args.output.now) (store_view g.S.Store.files g.S.Store.faults c.args.store.now) in
     let new = outside (stream_view g.R.Source.left g.R.Source.faults c.read_all.new.source) (stream_view g.W.Sink.given g.W.Sink.faults c.answer-in-Ok-Whole.new.output) (store_view g.S.Store.files g.S.Store.faults c.answer-in-Ok-Whole.new.store) in
-    rw (← c.of_words-request.ensures.asked) (complete_by asked old new files c.as_slice.result.now c.answer-in-Ok-Whole.result c.answer-in-Ok-Whole.ensures.rose (c.answer-in-Ok-Whole.ensures.ends files (are_told held)))
+    rw (← c.of_args-request.ensures.asked) (complete_by asked old new files c.as_slice.result.now c.answer-in-Ok-Whole.result c.answer-in-Ok-Whole.ensures.store.rose (c.answer-in-Ok-Whole.ensures.ends files (are_told told_files)))
 
 pub returns-in-Ok-Whole-clause-sink_sure : goal.returns-in-Ok-Whole-clause-sink_sure
 returns-in-Ok-Whole-clause-sink_sure g c bytes files told left are tells enough =
     let whole = rw (← c.as_slice.ensures.value) at (c.in-Ok-Whole.ensures.whole (rw c.in-Ok-Whole.field-0-is refl)) in
     let same = input_is (g.R.Source.left c.args.input.now) (g.R.Source.left c.read_all.new.source) bytes c.as_slice.result.now left whole.0 whole.1 in
-    c.answer-in-Ok-Whole.ensures.sure files told (rw (← c.of_words-request.ensures.asked) at are) (rw (← c.of_words-request.ensures.asked, same) at tells) enough
+    c.answer-in-Ok-Whole.ensures.sure files told (rw (← c.of_args-request.ensures.asked) at are) (rw (← c.of_args-request.ensures.asked, same) at tells) enough
 
 pub returns-clause-ends : goal.returns-clause-ends
 returns-clause-ends g c =
-    let asked = asked_of c.of_words-request.result in
+    let asked = asked_of c.of_args-request.result in
     let store = store_view g.S.Store.files g.S.Store.faults c.args.store.now in
     let sink = stream_view g.W.Sink.given g.W.Sink.faults c.args.output.now in
     let old = outside (stream_view g.R.Source.left g.R.Source.faults c.args.input.now) sink store in
     let new = outside (stream_view g.R.Source.left g.R.Source.faults c.read_all.new.source) sink store in
     let part = c.in-Err-Memory.ensures.part in
-    let nothing : NothingGiven asked (LONGEST_INPUT + 1) old new = (known_reads c.of_words-request.result c.in_default.not-Unknown, Keeps-refl _, (part.0, part.1, part.2)) in
-    inl (rw (← c.of_words-request.ensures.asked) nothing)
+    let nothing : NothingGiven asked (LONGEST_INPUT + 1) old new = (known_reads c.of_args-request.result c.in_default.not-Unknown, Keeps-refl _, (part.0, part.1, part.2)) in
+    inl (rw (← c.of_args-request.ensures.asked) nothing)
+
+pub returns-in-Ok-Whole-clause-unasked : goal.returns-in-Ok-Whole-clause-unasked
+returns-in-Ok-Whole-clause-unasked g c bytes files left are never =
+    let whole = rw (← c.as_slice.ensures.value) at (c.in-Ok-Whole.ensures.whole (rw c.in-Ok-Whole.field-0-is refl)) in
+    let same = input_is (g.R.Source.left c.args.input.now) (g.R.Source.left c.read_all.new.source) bytes c.as_slice.result.now left whole.0 whole.1 in
+    c.answer-in-Ok-Whole.ensures.unasked files are (rw (← c.of_args-request.ensures.asked, same) at never)

@@ -2,7 +2,7 @@ use Rattle.std.proofs.Common.{◌≡◌, ◌∙◌, sym, length}
 use Rattle.std.specs.Prelude.{Ok}
 use Rattle.star_lex.specs.Lex.{lexed}
 use Rattle.blink_run.proofs.PieceStatementLemmas.{says_statement, not_passed}
-use Rattle.blink_run.proofs.answers.said_by.Goals as goal
+use Rattle.blink_run.proofs.piece_text.said_by.Goals as goal
 
 pub returns-in-Ok-parse-clause-says : goal.returns-in-Ok-parse-clause-says
 returns-in-Ok-parse-clause-says c =

@@ -1,5 +1,5 @@
-use super::*;
 use blink_edge::{BytesIn, BytesOut, Shelf};
+use blink_run::{Status, run};
 use std::alloc::{AllocError, Global};
 use std::process::Abort;
 use std::test::Fail;
@@ -7,7 +7,7 @@ use std::test::Fail;
 const USAGE: &str =
     "usage: blink run [--rows N] [--blocks N] | blink range COLUMN LOW HIGH | blink demo SEED ROWS\n";
 
-// The words, the input, the status, and what is printed.
+// The arguments, the input, the status, and what is printed.
 type Row = (&'static str, &'static str, Status, &'static str);
 
 // Counts of a column.
@@ -167,7 +167,7 @@ const SCRIPTS: [Row; 15] = [
 // The files of a script: names, and the lines of each with how often they stand.
 type Files = &'static [(&'static str, &'static [(&'static str, usize)])];
 
-// The words, the script, its files, the status, and what is printed.
+// The arguments, the script, its files, the status, and what is printed.
 type TableRow = (&'static str, &'static str, Files, Status, &'static str);
 
 // Two rows of 1.
@@ -175,6 +175,12 @@ const ONES: (&str, &[(&str, usize)]) = ("l.csv", &[("a", 1), ("1", 2)]);
 
 // A row of 7.
 const SEVEN: (&str, &[(&str, usize)]) = ("m.csv", &[("a", 1), ("7", 1)]);
+
+// No files.
+const NO_FILES: Files = &[];
+
+// Both files.
+const LINES: Files = &[ONES, SEVEN];
 
 // Scripts that make, fill, describe and drop tables.
 const TABLES: [TableRow; 22] = [
@@ -370,7 +376,7 @@ const TABLES: [TableRow; 22] = [
     ),
 ];
 
-// Words in no stated form.
+// Arguments in no stated form.
 const UNKNOWN: [&str; 14] = [
     "run --rows 0",
     "run --rows 5 --rows 6",
@@ -388,40 +394,13 @@ const UNKNOWN: [&str; 14] = [
     "RUN",
 ];
 
-fn words_of(alloc: Global, text: &str) -> Result<Vec<String>, AllocError> {
-    let mut words = Vec::new(alloc);
-    for word in text.split_whitespace() {
-        words.push(String::from_str(alloc, word)?)?;
+// The arguments that a text has, split at its spaces.
+fn args_of(alloc: Global, text: &str) -> Result<Vec<String>, AllocError> {
+    let mut args = Vec::new(alloc);
+    for arg in text.split_whitespace() {
+        args.push(String::from_str(alloc, arg)?)?;
     }
-    Ok(words)
-}
-
-// Runs the words over an input in pieces of three bytes, and asserts the status and what is printed.
-fn expect_row(rt: &impl Abort, alloc: Global, row: &Row) -> Result<(), AllocError> {
-    let (text, input, status, printed) = row;
-    let words = words_of(alloc, text)?;
-    let mut source = BytesIn::new(input.as_bytes().to_vec(alloc)?, 3, Vec::new(alloc));
-    let mut sink = BytesOut::new(alloc, 1_048_576, Vec::new(alloc))?;
-    let mut store = Shelf::new(alloc, Vec::new(alloc));
-    let ended = run(alloc, words.as_slice(), &mut source, &mut sink, &mut store);
-    assert_eq!(rt; ended, *status, "{text}: {input}");
-    assert_eq!(rt; sink.bytes(), printed.as_bytes(), "{text}: {input}");
-    Ok(())
-}
-
-#[test]
-fn each_row_prints_its_lines(rt: HostRuntime) -> Result<(), Fail> {
-    let alloc = rt.alloc();
-    for row in &COUNTS {
-        expect_row(&rt, alloc, row)?;
-    }
-    for row in &SCRIPTS {
-        expect_row(&rt, alloc, row)?;
-    }
-    for words in &UNKNOWN {
-        expect_row(&rt, alloc, &(*words, "DROP TABLE t;", Status::Usage, USAGE))?;
-    }
-    Ok(())
+    Ok(args)
 }
 
 // The text of lines, each as often as it stands.
@@ -436,35 +415,86 @@ fn text_of(alloc: Global, lines: &[(&str, usize)]) -> Result<Vec<u8>, AllocError
     Ok(text)
 }
 
-// A store with these files.
+// A store with these files, whose call of this number fails; none where it is 0.
 fn shelf_of(
     alloc: Global,
     files: &[(&str, &[(&str, usize)])],
-    failing: Vec<u64>,
+    fails: u64,
 ) -> Result<Shelf, AllocError> {
-    let mut shelf = Shelf::new(alloc, failing);
+    let mut shelf = Shelf::new(alloc, vec![in alloc; fails]?);
     for (name, lines) in files {
         shelf.set(name, text_of(alloc, lines)?)?;
     }
     Ok(shelf)
 }
 
-// Runs the words over a script and its files, and asserts the status and what is printed.
-fn expect_tables(rt: &impl Abort, alloc: Global, row: &TableRow) -> Result<(), AllocError> {
-    let (text, script, files, status, printed) = row;
-    let words = words_of(alloc, text)?;
-    let mut source = BytesIn::new(script.as_bytes().to_vec(alloc)?, 16, Vec::new(alloc));
-    let mut sink = BytesOut::new(alloc, 1_048_576, Vec::new(alloc))?;
-    let mut store = shelf_of(alloc, files, Vec::new(alloc))?;
-    let ended = run(alloc, words.as_slice(), &mut source, &mut sink, &mut store);
-    assert_eq!(rt; ended, *status, "{script}");
-    assert_eq!(rt; sink.bytes(), printed.as_bytes(), "{script}");
+// How the source and the sink are: the most bytes of a piece that is taken, the room, and the numbers of the calls that
+// fail; none where it is 0.
+#[derive(Clone, Copy)]
+struct Streams {
+    piece: usize,
+    source_fails: u64,
+    room: usize,
+    sink_fails: u64,
+}
+
+// Small pieces, much room, and no call that fails.
+const CALM: Streams = Streams {
+    piece: 3,
+    source_fails: 0,
+    room: 1_048_576,
+    sink_fails: 0,
+};
+
+// The status and the printed bytes of a run.
+fn run_end(
+    alloc: Global,
+    args: &str,
+    input: Vec<u8>,
+    streams: Streams,
+    store: &mut Shelf,
+) -> Result<(Status, Vec<u8>), AllocError> {
+    let args = args_of(alloc, args)?;
+    let source_fails = vec![in alloc; streams.source_fails]?;
+    let mut source = BytesIn::new(input, streams.piece.max(1), source_fails);
+    let mut sink = BytesOut::new(alloc, streams.room, vec![in alloc; streams.sink_fails]?)?;
+    let status = run(alloc, args.as_slice(), &mut source, &mut sink, store);
+    Ok((status, sink.bytes().to_vec(alloc)?))
+}
+
+// Runs a row over its files, and asserts the status, what is printed, and that the files stand.
+fn expect_row(
+    rt: &impl Abort,
+    alloc: Global,
+    row: &TableRow,
+    streams: Streams,
+    store_fails: u64,
+) -> Result<(), AllocError> {
+    let (args, input, files, status, printed) = row;
+    let mut store = shelf_of(alloc, files, store_fails)?;
+    let bytes = input.as_bytes().to_vec(alloc)?;
+    let (ended, output) = run_end(alloc, args, bytes, streams, &mut store)?;
+    assert_eq!(rt; ended, *status, "{args}: {input}");
+    assert_eq!(rt; output.as_slice(), printed.as_bytes(), "{args}: {input}");
     for (name, lines) in *files {
-        assert_eq!(rt;
-            store.file(name),
-            Some(text_of(alloc, lines)?.as_slice()),
-            "{script}"
-        );
+        let text = text_of(alloc, lines)?;
+        assert_eq!(rt; store.file(name), Some(text.as_slice()), "{input}");
+    }
+    Ok(())
+}
+
+#[test]
+fn each_row_prints_its_lines(rt: HostRuntime) -> Result<(), Fail> {
+    let alloc = rt.alloc();
+    for (args, input, status, printed) in COUNTS {
+        expect_row(&rt, alloc, &(args, input, &[], status, printed), CALM, 0)?;
+    }
+    for (args, input, status, printed) in SCRIPTS {
+        expect_row(&rt, alloc, &(args, input, &[], status, printed), CALM, 0)?;
+    }
+    for args in UNKNOWN {
+        let row = (args, "DROP TABLE t;", NO_FILES, Status::Usage, USAGE);
+        expect_row(&rt, alloc, &row, CALM, 0)?;
     }
     Ok(())
 }
@@ -473,7 +503,7 @@ fn expect_tables(rt: &impl Abort, alloc: Global, row: &TableRow) -> Result<(), A
 fn tables_are_kept(rt: HostRuntime) -> Result<(), Fail> {
     let alloc = rt.alloc();
     for row in &TABLES {
-        expect_tables(&rt, alloc, row)?;
+        expect_row(&rt, alloc, row, Streams { piece: 16, ..CALM }, 0)?;
     }
     Ok(())
 }
@@ -494,60 +524,93 @@ fn there_are_64_tables_at_most(rt: HostRuntime) -> Result<(), Fail> {
     printed.push_str(
         "refused: too many tables\nrefused: table exists t7\ndropped t7\ncreated u\n",
     )?;
-    let words = words_of(alloc, "run")?;
-    let mut source = BytesIn::new(script.as_bytes().to_vec(alloc)?, 64, Vec::new(alloc));
-    let mut sink = BytesOut::new(alloc, 4096, Vec::new(alloc))?;
+    let streams = Streams { piece: 64, room: 4096, ..CALM };
     let mut store = Shelf::new(alloc, Vec::new(alloc));
-    let ended = run(alloc, words.as_slice(), &mut source, &mut sink, &mut store);
+    let input = script.as_bytes().to_vec(alloc)?;
+    let (ended, output) = run_end(alloc, "run", input, streams, &mut store)?;
     assert_eq!(rt; ended, Status::Refused);
-    assert_eq!(rt; sink.bytes(), printed.as_bytes());
+    assert_eq!(rt; output.as_slice(), printed.as_bytes());
     Ok(())
 }
 
-// The store's calls that fail, the sink's, the status, and what is printed. A statement that doesn't ask the store counts
+// The store is asked by the third and the fourth statement alone.
+const ASKING: &str = "CREATE TABLE t (a INT); LOAD INTO u FROM 'l.csv'; LOAD INTO t FROM 'l.csv'; APPEND INTO t FROM 'm.csv'; DROP TABLE t";
+
+// The store's call that fails, the sink's, the status, and what is printed. A statement that doesn't ask the store counts
 // as no call of it.
+const STORE_FAULTS: [(u64, u64, Status, &str); 5] = [
+    (1, 0, Status::StoreFault, "created t\nrefused: unknown table u\n"),
+    (
+        2,
+        0,
+        Status::StoreFault,
+        "created t\nrefused: unknown table u\nadded 2\n",
+    ),
+    (
+        3,
+        0,
+        Status::Refused,
+        "created t\nrefused: unknown table u\nadded 2\nadded 1\ndropped t\n",
+    ),
+    (1, 2, Status::WriteFault, "created t\n"),
+    (2, 3, Status::WriteFault, "created t\nrefused: unknown table u\n"),
+];
+
 #[test]
 fn a_fault_of_the_store_ends_a_run(rt: HostRuntime) -> Result<(), Fail> {
     let alloc = rt.alloc();
-    let script =
-        "CREATE TABLE t (a INT); LOAD INTO u FROM 'l.csv'; LOAD INTO t FROM 'l.csv'; APPEND INTO t FROM 'm.csv'; DROP TABLE t";
-    let first = "created t\nrefused: unknown table u\n";
-    let second = "created t\nrefused: unknown table u\nadded 2\n";
-    for (store_fails, sink_fails, status, printed) in [
-        (1, 0, Status::StoreFault, first),
-        (2, 0, Status::StoreFault, second),
-        (
-            3,
-            0,
-            Status::Refused,
-            "created t\nrefused: unknown table u\nadded 2\nadded 1\ndropped t\n",
-        ),
-        (1, 2, Status::WriteFault, "created t\n"),
-        (2, 3, Status::WriteFault, first),
-    ] {
-        let words = words_of(alloc, "run")?;
-        let mut source = BytesIn::new(script.as_bytes().to_vec(alloc)?, 64, Vec::new(alloc));
-        let mut sink = BytesOut::new(alloc, 4096, vec![in alloc; sink_fails]?)?;
-        let mut store = shelf_of(alloc, &[ONES, SEVEN], vec![in alloc; store_fails]?)?;
-        let ended = run(alloc, words.as_slice(), &mut source, &mut sink, &mut store);
-        assert_eq!(rt; ended, status);
-        assert_eq!(rt; sink.bytes(), printed.as_bytes());
+    for (store_fails, sink_fails, status, printed) in STORE_FAULTS {
+        let streams = Streams { piece: 64, room: 4096, sink_fails, ..CALM };
+        let row = ("run", ASKING, LINES, status, printed);
+        expect_row(&rt, alloc, &row, streams, store_fails)?;
     }
     Ok(())
 }
 
-// The sink's second call fails: the first line stands.
+const COUNT: &str = "range a 2 5";
+
+const NUMBERS: &str = "a\n1\n2\n5\n6\n";
+
+const DROPS: &str = "DROP TABLE t; SELECT; DROP TABLE u";
+
+// The arguments, the input, the source's call that fails, the sink's room, its call that fails, the status, and what is
+// printed. In the last row a table is dropped before its line is given.
+const FAULTS: [(&str, &str, u64, usize, u64, Status, &str); 10] = [
+    (COUNT, NUMBERS, 2, 9, 0, Status::ReadFault, ""),
+    (COUNT, NUMBERS, 0, 1, 0, Status::WriteFault, ""),
+    (COUNT, NUMBERS, 0, 9, 1, Status::WriteFault, ""),
+    (COUNT, NUMBERS, 0, 2, 2, Status::Done, "2\n"),
+    ("run", DROPS, 2, 99, 0, Status::ReadFault, ""),
+    ("run", DROPS, 0, 40, 0, Status::WriteFault, "refused: unknown table t\n"),
+    ("run", DROPS, 0, 99, 1, Status::WriteFault, ""),
+    ("run", DROPS, 0, 99, 2, Status::WriteFault, "refused: unknown table t\n"),
+    (
+        "run",
+        DROPS,
+        0,
+        66,
+        4,
+        Status::Refused,
+        "refused: unknown table t\nrefused: syntax\nrefused: unknown table u\n",
+    ),
+    (
+        "run",
+        "CREATE TABLE t (a INT); DROP TABLE t;",
+        0,
+        4096,
+        2,
+        Status::WriteFault,
+        "created t\n",
+    ),
+];
+
 #[test]
-fn a_table_is_dropped_before_its_line_is_given(rt: HostRuntime) -> Result<(), Fail> {
+fn faults_end_a_run(rt: HostRuntime) -> Result<(), Fail> {
     let alloc = rt.alloc();
-    let script = "CREATE TABLE t (a INT); DROP TABLE t;";
-    let words = words_of(alloc, "run")?;
-    let mut source = BytesIn::new(script.as_bytes().to_vec(alloc)?, 64, Vec::new(alloc));
-    let mut sink = BytesOut::new(alloc, 4096, vec![in alloc; 2]?)?;
-    let mut store = Shelf::new(alloc, Vec::new(alloc));
-    let ended = run(alloc, words.as_slice(), &mut source, &mut sink, &mut store);
-    assert_eq!(rt; ended, Status::WriteFault);
-    assert_eq!(rt; sink.bytes(), b"created t\n".as_slice());
+    for (args, input, source_fails, room, sink_fails, status, printed) in FAULTS {
+        let streams = Streams { piece: 4, source_fails, room, sink_fails };
+        expect_row(&rt, alloc, &(args, input, NO_FILES, status, printed), streams, 0)?;
+    }
     Ok(())
 }
 
@@ -555,71 +618,26 @@ fn a_table_is_dropped_before_its_line_is_given(rt: HostRuntime) -> Result<(), Fa
 #[test]
 fn a_file_past_the_limit_is_too_long(rt: HostRuntime) -> Result<(), Fail> {
     let alloc = rt.alloc();
-    let script = "CREATE TABLE t (a INT); LOAD INTO t FROM 'f'";
-    let words = words_of(alloc, "run")?;
-    let mut source = BytesIn::new(script.as_bytes().to_vec(alloc)?, 64, Vec::new(alloc));
-    let mut sink = BytesOut::new(alloc, 4096, Vec::new(alloc))?;
     let mut store = Shelf::new(alloc, Vec::new(alloc));
     store.set("f", vec![in alloc; b' '; 134_217_729]?)?;
-    let ended = run(alloc, words.as_slice(), &mut source, &mut sink, &mut store);
+    let input = b"CREATE TABLE t (a INT); LOAD INTO t FROM 'f'".to_vec(alloc)?;
+    let (ended, output) = run_end(alloc, "run", input, CALM, &mut store)?;
     assert_eq!(rt; ended, Status::Refused);
     assert_eq!(rt;
-        sink.bytes(),
+        output.as_slice(),
         b"created t\nrefused: file too long\n".as_slice()
     );
-    Ok(())
-}
-
-// The source's second call fails; the sink has room for one byte too few, or its first or second call fails.
-#[test]
-fn faults_end_a_run(rt: HostRuntime) -> Result<(), Fail> {
-    let alloc = rt.alloc();
-    let count = ("range a 2 5", "a\n1\n2\n5\n6\n");
-    let script = ("run", "DROP TABLE t; SELECT; DROP TABLE u");
-    let line = "refused: unknown table t\n";
-    for ((words, input), source_fails, room, sink_fails, status, printed) in [
-        (count, 2, 9, 0, Status::ReadFault, ""),
-        (count, 0, 1, 0, Status::WriteFault, ""),
-        (count, 0, 9, 1, Status::WriteFault, ""),
-        (count, 0, 2, 2, Status::Done, "2\n"),
-        (script, 2, 99, 0, Status::ReadFault, ""),
-        (script, 0, 40, 0, Status::WriteFault, line),
-        (script, 0, 99, 1, Status::WriteFault, ""),
-        (script, 0, 99, 2, Status::WriteFault, line),
-        (
-            script,
-            0,
-            66,
-            4,
-            Status::Refused,
-            "refused: unknown table t\nrefused: syntax\nrefused: unknown table u\n",
-        ),
-    ] {
-        let words = words_of(alloc, words)?;
-        let mut source = BytesIn::new(
-            input.as_bytes().to_vec(alloc)?,
-            4,
-            vec![in alloc; source_fails]?,
-        );
-        let mut sink = BytesOut::new(alloc, room, vec![in alloc; sink_fails]?)?;
-        let mut store = Shelf::new(alloc, Vec::new(alloc));
-        let ended = run(alloc, words.as_slice(), &mut source, &mut sink, &mut store);
-        assert_eq!(rt; ended, status);
-        assert_eq!(rt; sink.bytes(), printed.as_bytes());
-    }
     Ok(())
 }
 
 #[test]
 fn an_input_past_the_limit_is_long(rt: HostRuntime) -> Result<(), Fail> {
     let alloc = rt.alloc();
-    let words = words_of(alloc, "range a 2 5")?;
-    let spaces = vec![in alloc; b' '; 67_108_865]?;
-    let mut source = BytesIn::new(spaces, 1_000_000, Vec::new(alloc));
-    let mut sink = BytesOut::new(alloc, 100, Vec::new(alloc))?;
     let mut store = Shelf::new(alloc, Vec::new(alloc));
-    let ended = run(alloc, words.as_slice(), &mut source, &mut sink, &mut store);
+    let input = vec![in alloc; b' '; 67_108_865]?;
+    let streams = Streams { piece: 1_000_000, room: 100, ..CALM };
+    let (ended, output) = run_end(alloc, COUNT, input, streams, &mut store)?;
     assert_eq!(rt; ended, Status::Long);
-    assert_eq!(rt; sink.bytes().len(), 0);
+    assert_eq!(rt; output.len(), 0);
     Ok(())
 }
