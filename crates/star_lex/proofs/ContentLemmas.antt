@@ -10,7 +10,7 @@ use Rattle.blink_base.specs.Texts.{is_text}
 use Rattle.blink_base.specs.Identifiers.{begins_name, is_name_byte}
 use Rattle.star_lex.specs.declared.token.TokenKind.TheVariants as token
 use Rattle.star_lex.specs.declared.token.LexFault.TheVariants as fault
-use Rattle.star_lex.specs.Forms.{unpaired, inside, kept_of, a_text}
+use Rattle.star_lex.specs.Forms.{unpaired, inside, content_of, a_text}
 
 -- bytes that are UTF-8 are a text, and others not
 pub text_yes : (bytes : List ℕ) → IsUtf8 bytes → is_text bytes ≡ true
@@ -66,29 +66,29 @@ byte_first : (b : ℕ) (rest : List ℕ) → b ≢ 39 → unpaired (b ∷ rest) 
 byte_first b [] other = refl
 byte_first b (c ∷ rest) other = rw (unpaired, ne_eqb b 39 other) refl
 
--- one byte that is kept of the inside of a text
-pub quote_kept : (bytes : List ℕ) (at b : ℕ) → at < length bytes → b ≡ get_or bytes at 0 → b ≡ 39 → unpaired (drop at bytes) ≡ b ∷ unpaired (drop (at + 2) bytes)
-quote_kept bytes at b l is quote =
+-- one byte of the inside of a text
+pub quote_unpaired : (bytes : List ℕ) (at b : ℕ) → at < length bytes → b ≡ get_or bytes at 0 → b ≡ 39 → unpaired (drop at bytes) ≡ b ∷ unpaired (drop (at + 2) bytes)
+quote_unpaired bytes at b l is quote =
     let front : drop at bytes ≡ 39 ∷ drop (at + 1) bytes = drop_more bytes at 0 l ∙ ap (λ x. x ∷ drop (at + 1) bytes) (sym is ∙ quote) in
     let two : at + 1 + 1 ≡ at + 2 = omega arith in
     ap unpaired front ∙ quote_first (drop (at + 1) bytes) ∙ rw (drop-drop 1 (at + 1) bytes, two, quote) refl
 
-pub byte_kept : (bytes : List ℕ) (at b : ℕ) → at < length bytes → b ≡ get_or bytes at 0 → b ≢ 39 → unpaired (drop at bytes) ≡ b ∷ unpaired (drop (at + 1) bytes)
-byte_kept bytes at b l is other =
+pub byte_unpaired : (bytes : List ℕ) (at b : ℕ) → at < length bytes → b ≡ get_or bytes at 0 → b ≢ 39 → unpaired (drop at bytes) ≡ b ∷ unpaired (drop (at + 1) bytes)
+byte_unpaired bytes at b l is other =
     let front : drop at bytes ≡ b ∷ drop (at + 1) bytes = drop_more bytes at 0 l ∙ ap (λ x. x ∷ drop (at + 1) bytes) (sym is) in
     ap unpaired front ∙ byte_first b (drop (at + 1) bytes) other
 
 -- a text whose content is a word, and one whose content is none
-pub text_kept : (bytes content w : List ℕ) (at : ℕ) (o : Option (List ℕ)) → content ≡ unpaired (inside bytes) → o ≡ cond (is_text content) (Some content) None → o ≡ Some w
-    → Ok (Some (token.Text w)) ≡ kept_of a_text bytes at
-text_kept bytes content w at o is word e =
+pub text_content : (bytes content w : List ℕ) (at : ℕ) (o : Option (List ℕ)) → content ≡ unpaired (inside bytes) → o ≡ cond (is_text content) (Some content) None → o ≡ Some w
+    → Ok (Some (token.Text w)) ≡ content_of a_text bytes at
+text_content bytes content w at o is word e =
     rw (← is) (elim (is_text content) as (λ t. o ≡ cond t (Some content) None → Ok (Some (token.Text w)) ≡ cond t (Ok (Some (token.Text content))) (Err (fault.BadByte at))) [
       | true ↦ λ f. let same : w ≡ content = cc in rw same refl
       | false ↦ λ f. cc
     ] word)
 
 pub text_refused : (bytes content : List ℕ) (at : ℕ) (o : Option (List ℕ)) → content ≡ unpaired (inside bytes) → o ≡ cond (is_text content) (Some content) None → o ≡ None
-    → Err (fault.BadByte at) ≡ kept_of a_text bytes at
+    → Err (fault.BadByte at) ≡ content_of a_text bytes at
 text_refused bytes content at o is word e =
     rw (← is) (elim (is_text content) as (λ t. o ≡ cond t (Some content) None → Err (fault.BadByte at) ≡ cond t (Ok (Some (token.Text content))) (Err (fault.BadByte at))) [
       | true ↦ λ f. cc

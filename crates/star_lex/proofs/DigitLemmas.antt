@@ -32,12 +32,12 @@ digits_say (c ∷ cs) some all =
     rw (minus, filled, all) (said (nat_le (length (significant (c ∷ cs))) MOST_DIGITS) (pos (digits_value 10 (c ∷ cs))))
 
 -- a token or a fault, by whether there is a number
-pub kept_number : (fits : Bool) (number : ℤ) (at : ℕ) (token : TokenKind) → Some token ≡ option_map Number (cond fits (Some number) None)
+pub number_fits : (fits : Bool) (number : ℤ) (at : ℕ) (token : TokenKind) → Some token ≡ option_map Number (cond fits (Some number) None)
     → Ok (Some token) ≡ cond fits (Ok (Some (Number number))) (Err (LongNumber at))
-kept_number true number at token is = cc
-kept_number false number at token is = cc is
+number_fits true number at token is = cc
+number_fits false number at token is = cc is
 
-pub kept_fault : (fits : Bool) (number : ℤ) (at : ℕ) → option_map Number (cond fits (Some number) None) ≡ None
+pub number_too_long : (fits : Bool) (number : ℤ) (at : ℕ) → option_map Number (cond fits (Some number) None) ≡ None
     → Err (LongNumber at) ≡ cond fits (Ok (Some (Number number))) (Err (LongNumber at))
-kept_fault true number at is = cc is
-kept_fault false number at is = refl
+number_too_long true number at is = cc is
+number_too_long false number at is = refl

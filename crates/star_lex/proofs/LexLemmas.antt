@@ -6,8 +6,8 @@ use Rattle.std.proofs.lemmas.List.{length-drop, drop-drop}
 use Rattle.star_lex.specs.declared.token.TokenKind.{TokenKind}
 use Rattle.star_lex.specs.declared.token.Token.{Token}
 use Rattle.star_lex.specs.declared.token.LexFault.{LexFault}
-use Rattle.star_lex.specs.Forms.{Form, form_of, kept_of, fault_of}
-use Rattle.star_lex.specs.Lex.{Lexes, ends, goes, refused, stops, IsLongest, NoneBegins, form_between, front_length, kept_if_formed, kept_before, lexed_from, LexedIsLongest, LexesOneWay}
+use Rattle.star_lex.specs.Forms.{Form, form_of, content_of, fault_of}
+use Rattle.star_lex.specs.Lex.{Lexes, ends, goes, refused, stops, IsLongest, NoneBegins, form_between, front_length, content_if_formed, content_before, lexed_from, LexedIsLongest, LexesOneWay}
 use Rattle.star_lex.proofs.FormLemmas.{IsFront, front_is}
 
 -- what stands from a place on, and a part of it
@@ -53,12 +53,12 @@ none_begins text rest at within e n front is end past l =
 step : (text rest : List ℕ) (at : ℕ) → at < length text → drop at text ≡ rest → (n : ℕ) → IsFront rest n
     → (o : Option Form) → form_of (take n rest) (drop n rest) ≡ o
     → (more : Result (List Token) LexFault) → (1 ≤ n → Lexes text (at + n) more)
-    → (k : Result (Option TokenKind) LexFault) → kept_if_formed o n at rest ≡ k
-    → Lexes text at (elim k [ Err fault ↦ Err fault | Ok kept ↦ kept_before kept at (at + n) more ])
-step text rest at within e n front None is more follows k kept =
-    let err : Err (fault_of rest at) ≡ k = kept in
+    → (k : Result (Option TokenKind) LexFault) → content_if_formed o n at rest ≡ k
+    → Lexes text at (elim k [ Err fault ↦ Err fault | Ok content ↦ content_before content at (at + n) more ])
+step text rest at within e n front None is more follows k content =
+    let err : Err (fault_of rest at) ≡ k = content in
     rw (← err, ← e) (stops at within (none_begins text rest at (omega arith) e n front is))
-step text rest at within e n front (Some form) is more follows k kept = by k kept
+step text rest at within e n front (Some form) is more follows k content = by k content
   where
     some : (n : ℕ) → form_of (take n rest) (drop n rest) ≡ Some form → 1 ≤ n
     some zero is = cc
@@ -67,10 +67,10 @@ step text rest at within e n front (Some form) is more follows k kept = by k kep
     longest : IsLongest text at (at + n) form
     longest = longest_is text rest at form (omega arith) e n front is
 
-    by : (k : Result (Option TokenKind) LexFault) → kept_of form (take n rest) at ≡ k
-        → Lexes text at (elim k [ Err fault ↦ Err fault | Ok kept ↦ kept_before kept at (at + n) more ])
-    by (Err fault) kept = refused at (at + n) form fault longest (rw (part_is text rest at n e) kept)
-    by (Ok token) kept = goes at (at + n) form token more longest (rw (part_is text rest at n e) kept) (follows (some n is))
+    by : (k : Result (Option TokenKind) LexFault) → content_of form (take n rest) at ≡ k
+        → Lexes text at (elim k [ Err fault ↦ Err fault | Ok content ↦ content_before content at (at + n) more ])
+    by (Err fault) content = refused at (at + n) form fault longest (rw (part_is text rest at n e) content)
+    by (Ok token) content = goes at (at + n) form token more longest (rw (part_is text rest at n e) content) (follows (some n is))
 
 at_end : (text : List ℕ) (at : ℕ) → at ≤ length text → drop at text ≡ [] → Lexes text at (Ok [])
 at_end text at within e = let len = length_is text [] at e in let is : at ≡ length text = omega arith in rw is ends
@@ -118,16 +118,16 @@ same_longest text a b c d f g p q e = elim (cases_order c d) [
     yes : form_between text b c ≡ None → form_between text a c ≡ Some f → ⊥
     yes x y = cc
 
-same_kept : (text : List ℕ) (a b c d : ℕ) (f g : Form) (x y : Result (Option TokenKind) LexFault) → IsLongest text a c f → IsLongest text b d g → a ≡ b
-    → kept_of f (slice_range text a c) a ≡ x → kept_of g (slice_range text b d) b ≡ y → x ≡ y
-same_kept text a b c d f g x y p q e k l =
+same_content : (text : List ℕ) (a b c d : ℕ) (f g : Form) (x y : Result (Option TokenKind) LexFault) → IsLongest text a c f → IsLongest text b d g → a ≡ b
+    → content_of f (slice_range text a c) a ≡ x → content_of g (slice_range text b d) b ≡ y → x ≡ y
+same_content text a b c d f g x y p q e k l =
     let same = same_longest text a b c d f g p q e in
-    let kept : kept_of f (slice_range text a c) a ≡ kept_of g (slice_range text b d) b = rw (e, same.0, same.1) refl in
-    sym k ∙ kept ∙ l
+    let content : content_of f (slice_range text a c) a ≡ content_of g (slice_range text b d) b = rw (e, same.0, same.1) refl in
+    sym k ∙ content ∙ l
 
-same_goes : (a b c d : ℕ) (kept kept' : Option TokenKind) (rest rest' : Result (List Token) LexFault) → a ≡ b → c ≡ d → ◌≡◌ {A = Result (Option TokenKind) LexFault} (Ok kept) (Ok kept') → rest ≡ rest'
-    → kept_before kept a c rest ≡ kept_before kept' b d rest'
-same_goes a b c d kept kept' rest rest' e f g h = let same : kept ≡ kept' = cc in rw (e, f, same, h) refl
+same_goes : (a b c d : ℕ) (content content' : Option TokenKind) (rest rest' : Result (List Token) LexFault) → a ≡ b → c ≡ d → ◌≡◌ {A = Result (Option TokenKind) LexFault} (Ok content) (Ok content') → rest ≡ rest'
+    → content_before content a c rest ≡ content_before content' b d rest'
+same_goes a b c d content content' rest rest' e f g h = let same : content ≡ content' = cc in rw (e, f, same, h) refl
 
 none_begun : (text : List ℕ) (a b c : ℕ) (f : Form) → IsLongest text a c f → NoneBegins text b → a ≡ b → ⊥
 none_begun text a b c f p none e =
@@ -142,30 +142,30 @@ beyond text a c f p e = let some = has_byte text a c f p in let most = p.within 
 
 one_way : (text : List ℕ) (a b : ℕ) (x y : Result (List Token) LexFault) → Lexes text a x → Lexes text b y → a ≡ b → x ≡ y
 one_way text a b x y ends ends e = refl
-one_way text a b x y ends (goes t d g kept rest q l n) e = absurd (beyond text b d g q (sym e))
+one_way text a b x y ends (goes t d g content rest q l n) e = absurd (beyond text b d g q (sym e))
 one_way text a b x y ends (refused t d g fault q l) e = absurd (beyond text b d g q (sym e))
 one_way text a b x y ends (stops t m none) e = absurd (omega arith)
-one_way text a b x y (goes s c f kept rest p k m) ends e = absurd (beyond text a c f p e)
-one_way text a b x y (goes s c f kept rest p k m) (goes t d g kept' rest' q l n) e =
+one_way text a b x y (goes s c f content rest p k m) ends e = absurd (beyond text a c f p e)
+one_way text a b x y (goes s c f content rest p k m) (goes t d g content' rest' q l n) e =
     let same = same_longest text a b c d f g p q e in
-    same_goes a b c d kept kept' rest rest' e same.0 (same_kept text a b c d f g _ _ p q e k l) (one_way text c d rest rest' m n same.0)
-one_way text a b x y (goes s c f kept rest p k m) (refused t d g fault q l) e = absurd (ok_err (same_kept text a b c d f g _ _ p q e k l))
+    same_goes a b c d content content' rest rest' e same.0 (same_content text a b c d f g _ _ p q e k l) (one_way text c d rest rest' m n same.0)
+one_way text a b x y (goes s c f content rest p k m) (refused t d g fault q l) e = absurd (ok_err (same_content text a b c d f g _ _ p q e k l))
   where
-    ok_err : ◌≡◌ {A = Result (Option TokenKind) LexFault} (Ok kept) (Err fault) → ⊥
+    ok_err : ◌≡◌ {A = Result (Option TokenKind) LexFault} (Ok content) (Err fault) → ⊥
     ok_err h = cc
-one_way text a b x y (goes s c f kept rest p k m) (stops t l none) e = absurd (none_begun text a b c f p none e)
+one_way text a b x y (goes s c f content rest p k m) (stops t l none) e = absurd (none_begun text a b c f p none e)
 one_way text a b x y (refused s c f fault p k) ends e = absurd (beyond text a c f p e)
-one_way text a b x y (refused s c f fault p k) (goes t d g kept rest q l n) e = absurd (err_ok (same_kept text a b c d f g _ _ p q e k l))
+one_way text a b x y (refused s c f fault p k) (goes t d g content rest q l n) e = absurd (err_ok (same_content text a b c d f g _ _ p q e k l))
   where
-    err_ok : ◌≡◌ {A = Result (Option TokenKind) LexFault} (Err fault) (Ok kept) → ⊥
+    err_ok : ◌≡◌ {A = Result (Option TokenKind) LexFault} (Err fault) (Ok content) → ⊥
     err_ok h = cc
-one_way text a b x y (refused s c f fault p k) (refused t d g fault' q l) e = err_err (same_kept text a b c d f g _ _ p q e k l)
+one_way text a b x y (refused s c f fault p k) (refused t d g fault' q l) e = err_err (same_content text a b c d f g _ _ p q e k l)
   where
     err_err : ◌≡◌ {A = Result (Option TokenKind) LexFault} (Err fault) (Err fault') → ◌≡◌ {A = Result (List Token) LexFault} (Err fault) (Err fault')
     err_err h = cc
 one_way text a b x y (refused s c f fault p k) (stops t l none) e = absurd (none_begun text a b c f p none e)
 one_way text a b x y (stops s l none) ends e = absurd (omega arith)
-one_way text a b x y (stops s l none) (goes t d g kept rest q k n) e = absurd (none_begun text b a d g q none (sym e))
+one_way text a b x y (stops s l none) (goes t d g content rest q k n) e = absurd (none_begun text b a d g q none (sym e))
 one_way text a b x y (stops s l none) (refused t d g fault q k) e = absurd (none_begun text b a d g q none (sym e))
 one_way text a b x y (stops s l none) (stops t l' none') e = rw e refl
 

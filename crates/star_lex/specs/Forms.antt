@@ -97,13 +97,13 @@ unpaired [] = []
 unpaired (b ∷ []) = b ∷ []
 unpaired (b ∷ c ∷ rest) = b ∷ (elim (b == quote) [ true ↦ unpaired rest | false ↦ unpaired (c ∷ rest) ])
 
--- what is kept of bytes of a form that begin at a place: nothing of white space, or a token; or the fault there
-abbrev pub kept_of : Form → List ℕ → ℕ → Result (Option TokenKind) LexFault
-kept_of blank bytes at = Ok None
-kept_of a_name bytes at = Ok (Some (token.Name (str_to_ascii_lowercase bytes)))
-kept_of a_number bytes at = if nat_le (length (significant bytes)) MOST_DIGITS then Ok (Some (token.Number (pos (digits_value 10 bytes)))) else Err (fault.LongNumber at)
-kept_of a_text bytes at = let w = unpaired (inside bytes) in if is_text w then Ok (Some (token.Text w)) else Err (fault.BadByte at)
-kept_of (a_mark m) bytes at = Ok (Some (token.Symbol m))
+-- the content of bytes of a form that begin at a place: none of white space, or a token's kind; or the fault there
+abbrev pub content_of : Form → List ℕ → ℕ → Result (Option TokenKind) LexFault
+content_of blank bytes at = Ok None
+content_of a_name bytes at = Ok (Some (token.Name (str_to_ascii_lowercase bytes)))
+content_of a_number bytes at = if nat_le (length (significant bytes)) MOST_DIGITS then Ok (Some (token.Number (pos (digits_value 10 bytes)))) else Err (fault.LongNumber at)
+content_of a_text bytes at = let w = unpaired (inside bytes) in if is_text w then Ok (Some (token.Text w)) else Err (fault.BadByte at)
+content_of (a_mark m) bytes at = Ok (Some (token.Symbol m))
 
 -- the fault at a place where no form begins
 abbrev pub fault_of : List ℕ → ℕ → LexFault

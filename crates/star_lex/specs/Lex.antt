@@ -11,7 +11,7 @@ use Rattle.star_lex.specs.declared.token.Token.{Token}
 use Rattle.star_lex.specs.declared.token.LexFault.{LexFault}
 use Rattle.star_lex.specs.declared.token.LexFault.TheVariants as fault
 use Rattle.star_lex.specs.Pieces.{quote, dash, line_feed}
-use Rattle.star_lex.specs.Forms.{Form, form_of, kept_of, fault_of, mark_of_bytes}
+use Rattle.star_lex.specs.Forms.{Form, form_of, content_of, fault_of, mark_of_bytes}
 
 -- the form that the bytes of a piece from one place to another have
 abbrev pub form_between : List ℕ → ℕ → ℕ → Option Form
@@ -27,21 +27,21 @@ pub record IsLongest (text : List ℕ) (start end : ℕ) (form : Form) : Type 0 
 abbrev pub NoneBegins : List ℕ → ℕ → Type 0
 NoneBegins text at = (end : ℕ) → at < end → end ≤ length text → form_between text at end ≡ None
 
--- what is kept of a form in front of what is kept of the rest, where the rest has no fault
-abbrev pub kept_before : Option TokenKind → ℕ → ℕ → Result (List Token) LexFault → Result (List Token) LexFault
-kept_before None start end rest = rest
-kept_before (Some kind) start end (Ok tokens) = Ok (record { kind = kind; start = start; end = end } ∷ tokens)
-kept_before (Some kind) start end (Err fault) = Err fault
+-- the content of a form in front of the tokens of the rest, where the rest has no fault
+abbrev pub content_before : Option TokenKind → ℕ → ℕ → Result (List Token) LexFault → Result (List Token) LexFault
+content_before None start end rest = rest
+content_before (Some kind) start end (Ok tokens) = Ok (record { kind = kind; start = start; end = end } ∷ tokens)
+content_before (Some kind) start end (Err fault) = Err fault
 
--- From a place on a piece is cut into longest forms, one behind the other: its tokens are those that are kept.
+-- From a place on a piece is cut into longest forms, one behind the other: its tokens are their contents.
 -- Or it is so cut up to a first place, where what the longest form says isn't allowed, or where no form begins.
 pub data Lexes (text : List ℕ) : ℕ → Result (List Token) LexFault → Type 0 where
   ends : Lexes text (length text) (Ok [])
-  goes : (start end : ℕ) (form : Form) (kept : Option TokenKind) (rest : Result (List Token) LexFault)
-      → IsLongest text start end form → kept_of form (slice_range text start end) start ≡ Ok kept
-      → Lexes text end rest → Lexes text start (kept_before kept start end rest)
+  goes : (start end : ℕ) (form : Form) (content : Option TokenKind) (rest : Result (List Token) LexFault)
+      → IsLongest text start end form → content_of form (slice_range text start end) start ≡ Ok content
+      → Lexes text end rest → Lexes text start (content_before content start end rest)
   refused : (start end : ℕ) (form : Form) (fault : LexFault)
-      → IsLongest text start end form → kept_of form (slice_range text start end) start ≡ Err fault
+      → IsLongest text start end form → content_of form (slice_range text start end) start ≡ Err fault
       → Lexes text start (Err fault)
   stops : (start : ℕ) → start < length text → NoneBegins text start → Lexes text start (Err (fault_of (drop start text) start))
 
@@ -73,27 +73,27 @@ front_length (b ∷ rest) =
     else if b == quote then option_map_or (λ n. n + 1) (closed_length rest) 0
     else other_length (b ∷ rest)
 
--- what is kept of a mark, or the fault where there is none
-abbrev pub kept_mark : Option Mark → ℕ → Result (Option TokenKind) LexFault
-kept_mark None at = Err (fault.BadByte at)
-kept_mark (Some m) at = Ok (Some (token.Symbol m))
+-- the content of a mark, or the fault where there is none
+abbrev pub mark_content : Option Mark → ℕ → Result (Option TokenKind) LexFault
+mark_content None at = Err (fault.BadByte at)
+mark_content (Some m) at = Ok (Some (token.Symbol m))
 
--- what is kept of the first n bytes, or the fault where they have no form
-abbrev pub kept_if_formed : Option Form → ℕ → ℕ → List ℕ → Result (Option TokenKind) LexFault
-kept_if_formed None n at rest = Err (fault_of rest at)
-kept_if_formed (Some form) n at rest = kept_of form (take n rest) at
+-- the content of the first n bytes, or the fault where they have no form
+abbrev pub content_if_formed : Option Form → ℕ → ℕ → List ℕ → Result (Option TokenKind) LexFault
+content_if_formed None n at rest = Err (fault_of rest at)
+content_if_formed (Some form) n at rest = content_of form (take n rest) at
 
--- what is kept of the first n bytes
-abbrev pub kept_of_front : ℕ → ℕ → List ℕ → Result (Option TokenKind) LexFault
-kept_of_front n at rest = kept_if_formed (form_of (take n rest) (drop n rest)) n at rest
+-- the content of the first n bytes
+abbrev pub front_content : ℕ → ℕ → List ℕ → Result (Option TokenKind) LexFault
+front_content n at rest = content_if_formed (form_of (take n rest) (drop n rest)) n at rest
 
--- what is kept of the front, and then of the rest
+-- the content of the front, and then the tokens of the rest
 abbrev pub lexed_from : ℕ → ℕ → List ℕ → Result (List Token) LexFault
 lexed_from zero at rest = Ok []
 lexed_from (suc more) at [] = Ok []
 lexed_from (suc more) at (b ∷ rest) =
     let n = front_length (b ∷ rest) in
-    elim (kept_of_front n at (b ∷ rest)) [ Err fault ↦ Err fault | Ok kept ↦ kept_before kept at (at + n) (lexed_from more (at + n) (drop n (b ∷ rest))) ]
+    elim (front_content n at (b ∷ rest)) [ Err fault ↦ Err fault | Ok content ↦ content_before content at (at + n) (lexed_from more (at + n) (drop n (b ∷ rest))) ]
 
 -- the tokens of a piece, or its first fault
 abbrev pub lexed : List ℕ → Result (List Token) LexFault

@@ -2,25 +2,14 @@
 ghost use Rattle.std.specs.Prelude.{◌≡◌, ◌≤◌, ◌<◌, ◌==◌, [], ◌∷◌, IfSome, length};
 ghost use Rattle.std.specs.List.{prefix_len};
 ghost use Rattle.std.specs.Char.{is_ascii_digit};
-ghost use Rattle.blink_base.specs.Identifiers.{begins_name, is_name_byte};
+ghost use Rattle.blink_base.specs.Identifiers.{is_name_byte};
 ghost use Rattle.blink_base.specs.declared.limits.TheConstants.{LONGEST_INPUT};
 ghost use Rattle.star_lex.specs.Forms.{mark_of_bytes};
 ghost use Rattle.star_lex.specs.Lex.{closed_length, other_length, front_length};
 
 use crate::Mark;
-use crate::cutting::{behind, comment_length};
-
-pub(crate) fn begins_name(byte: u8) -> bool
-    ensures { result ≡ begins_name byte }
-{
-    byte.is_ascii_lowercase() || byte.is_ascii_uppercase() || byte == b'_'
-}
-
-fn is_name_byte(byte: u8) -> bool
-    ensures { result ≡ is_name_byte byte }
-{
-    begins_name(byte) || byte.is_ascii_digit()
-}
+use crate::name_bytes::{begins_name, is_name_byte};
+use crate::piece_spans::{behind, comment_length};
 
 // How many letters, digits and underscores stand in front.
 fn name_bytes(bytes: &[u8]) -> usize

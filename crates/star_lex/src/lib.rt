@@ -1,18 +1,21 @@
 //! Pieces of a script, and the tokens of a piece.
+//!
+//! [`pieces`] finds the spans between semicolons outside texts and comments, and [`tokens`] cuts a piece into longest
+//! forms. Contracts see a token by its kind and its span, in bytes of the piece.
 #![tactic(auto)]
 
-mod cutting;
+mod contents;
 pub mod examples;
-mod kinds;
 mod laws;
 mod lengths;
+mod lexer;
+mod name_bytes;
 mod numbers;
-mod reading;
-#[cfg(test)]
-mod tests;
+mod piece_spans;
 mod token;
 
-pub use cutting::pieces;
 pub use laws::{one_way_to_lex, tokens_are_longest};
-pub use reading::tokens;
+pub use lexer::tokens;
+pub use name_bytes::{begins_name, is_name_byte};
+pub use piece_spans::pieces;
 pub use token::{LexFault, Mark, Place, Token, TokenKind};

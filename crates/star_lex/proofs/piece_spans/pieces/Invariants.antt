@@ -1,6 +1,6 @@
 use Rattle.std.proofs.Common.{◌≤◌, ◌-◌, length}
 use Rattle.star_lex.proofs.PieceLemmas.{IsCutTo}
-use Rattle.star_lex.proofs.cutting.pieces.Given as goal
+use Rattle.star_lex.proofs.piece_spans.pieces.Given as goal
 
 abbrev pub invariant-loop-at : goal.invariant-loop-at
 invariant-loop-at l = IsCutTo l.text l.places l.start l.at × (l.at ≤ length l.text)

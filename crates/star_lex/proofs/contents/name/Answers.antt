@@ -1,5 +1,5 @@
 use Rattle.star_lex.proofs.ContentLemmas.{name_text}
-use Rattle.star_lex.proofs.kinds.name.Goals as goal
+use Rattle.star_lex.proofs.contents.name.Goals as goal
 
 pub unreachable-requires : goal.unreachable-requires
 unreachable-requires c =

@@ -17,7 +17,7 @@ pub(crate) fn behind(text: &[u8], at: usize) -> &[u8]
 }
 
 // Where a byte first stands, or the number of bytes where it doesn't.
-fn place_of(byte: u8, bytes: &[u8]) -> usize
+fn index_of(byte: u8, bytes: &[u8]) -> usize
     ensures value { result ≡ position_or_len (λ b. b == byte) bytes.now }
     ensures within { result ≤ length bytes.now }
 {
@@ -34,7 +34,7 @@ fn text_length(bytes: &[u8]) -> usize
     ensures value { result ≡ length (take (position_or_len (λ b. b == quote) bytes.now + 1) bytes.now) }
     ensures within { result ≤ length bytes.now }
 {
-    bytes.len().min(place_of(b'\'', bytes) + 1)
+    bytes.len().min(index_of(b'\'', bytes) + 1)
 }
 
 // How far a comment goes on behind its dashes.
@@ -42,7 +42,7 @@ pub(crate) fn comment_length(bytes: &[u8]) -> usize
     ensures value { result ≡ position_or_len (λ b. b == line_feed) bytes.now }
     ensures within { result ≤ length bytes.now }
 {
-    place_of(b'\n', bytes)
+    index_of(b'\n', bytes)
 }
 
 // The length of the text, the comment or the other byte at the front.

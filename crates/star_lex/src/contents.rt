@@ -1,4 +1,4 @@
-// What is kept of names, texts and marks.
+// The content of names, texts and marks.
 ghost use Rattle.std.specs.Prelude.{◌≡◌, ◌≢◌, ◌≤◌, ◌==◌, not, Some, None, Ok, Err, IfOk, IsTrue, if◌then◌else◌, length};
 ghost use Rattle.std.specs.List.{list_all};
 ghost use Rattle.blink_base.specs.Texts.{is_text};
@@ -7,8 +7,8 @@ ghost use Rattle.std.specs.Str.{str_to_ascii_lowercase};
 ghost use Rattle.star_lex.specs.declared.token.TokenKind.TheVariants.{Name};
 ghost use Rattle.star_lex.specs.declared.token.LexFault.TheVariants.{Memory};
 ghost use Rattle.star_lex.specs.Pieces.{line_feed};
-ghost use Rattle.star_lex.specs.Forms.{kept_of, a_text, unpaired, is_blank, mark_of_bytes};
-ghost use Rattle.star_lex.specs.Lex.{kept_mark};
+ghost use Rattle.star_lex.specs.Forms.{content_of, a_text, unpaired, is_blank, mark_of_bytes};
+ghost use Rattle.star_lex.specs.Lex.{mark_content};
 
 use crate::lengths::mark_of_bytes;
 use crate::{LexFault, TokenKind};
@@ -32,7 +32,7 @@ fn lowered(alloc: Global, bytes: &[u8]) -> Result<Vec<u8>, AllocError>
     bytes.to_ascii_lowercase(alloc)
 }
 
-// What is kept of a name.
+// The content of a name.
 pub(crate) fn name(alloc: Global, bytes: &[u8]) -> Result<TokenKind, AllocError>
     requires { IsTrue (list_all is_name_byte bytes.now) }
     ensures { IfOk result (λ kind. kind ≡ Name (str_to_ascii_lowercase bytes.now)) }
@@ -58,10 +58,10 @@ fn unpaired(alloc: Global, inside: &[u8]) -> Result<Vec<u8>, AllocError>
     Ok(bytes)
 }
 
-// What is kept of a text that begins at a place.
+// The content of a text that begins at a place.
 pub(crate) fn text(alloc: Global, bytes: &[u8], at: u32) -> Result<Option<TokenKind>, LexFault>
     requires { 2 ≤ length bytes.now }
-    ensures { result ≢ Err Memory → result ≡ kept_of a_text bytes.now at }
+    ensures { result ≢ Err Memory → result ≡ content_of a_text bytes.now at }
 {
     let inside = unpaired(alloc, &bytes[1..bytes.len() - 1])?;
     match word_of(alloc, &inside)? {
@@ -86,9 +86,9 @@ fn is_blank(bytes: &[u8]) -> bool
     }
 }
 
-// What is kept of white space or a mark that begins at a place.
+// The content of white space or a mark that begins at a place.
 pub(crate) fn other(bytes: &[u8], at: u32) -> Result<Option<TokenKind>, LexFault>
-    ensures { result ≡ (if is_blank bytes.now then Ok None else kept_mark (mark_of_bytes bytes.now) at) }
+    ensures { result ≡ (if is_blank bytes.now then Ok None else mark_content (mark_of_bytes bytes.now) at) }
 {
     if is_blank(bytes) {
         return Ok(None);

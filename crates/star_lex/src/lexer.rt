@@ -1,23 +1,29 @@
 // The tokens of a piece.
-ghost use Rattle.std.specs.Prelude.{◌≡◌, ◌≢◌, ◌≤◌, ◌<◌, Err, length};
+ghost use Rattle.std.specs.Prelude.{◌≡◌, ◌≢◌, ◌≤◌, ◌<◌, Err, IfOk, length};
 ghost use Rattle.blink_base.specs.declared.limits.TheConstants.{LONGEST_INPUT};
 ghost use Rattle.star_lex.specs.declared.token.LexFault.TheVariants.{Memory};
-ghost use Rattle.star_lex.specs.Lex.{Lexes, lexed, front_length, kept_of_front};
+ghost use Rattle.star_lex.specs.Lex.{Lexes, lexed, front_length, front_content};
 
-use crate::cutting::behind;
-use crate::kinds::{name, other, text};
-use crate::lengths::{begins_name, front_length};
+use crate::contents::{name, other, text};
+use crate::lengths::front_length;
+use crate::name_bytes::begins_name;
 use crate::numbers::number;
+use crate::piece_spans::behind;
 use crate::{LexFault, Token, TokenKind};
 use blink_base::List;
 use std::alloc::Global;
 
-// What is kept of what begins at the front of the bytes from a place on: nothing of white space, or a token.
-fn kept(alloc: Global, left: &[u8], size: usize, at: u32) -> Result<Option<TokenKind>, LexFault>
+// The content of what begins at the front of the bytes from a place on: none of white space, or a token's kind.
+fn front_content(
+    alloc: Global,
+    left: &[u8],
+    size: usize,
+    at: u32,
+) -> Result<Option<TokenKind>, LexFault>
     requires some { 0 < length left.now }
     requires within { size ≤ length left.now }
     requires front { size ≡ front_length left.now }
-    ensures { result ≢ Err Memory → result ≡ kept_of_front size at left.now }
+    ensures { result ≢ Err Memory → result ≡ front_content size at left.now }
 {
     let front = &left[..size];
     let first = left[0];
@@ -42,12 +48,14 @@ fn kept(alloc: Global, left: &[u8], size: usize, at: u32) -> Result<Option<Token
 /// line feed or the end. A text's quotes are doubled inside it, and it ends at a quote that no quote follows.
 /// [`LexFault::OpenText`] comes exactly where the first fault is a text that isn't closed, [`LexFault::LongNumber`]
 /// where it is a number with too many digits, and [`LexFault::BadByte`] where it is any other byte, `;` too, that
-/// begins no token, or a text that is no UTF-8. [`LexFault::Memory`] comes for want of memory alone.
+/// begins no token, or a text that is no UTF-8. [`LexFault::Memory`] comes for want of memory alone. There are no more
+/// tokens than bytes.
 /// Source: ISO/IEC 9075 (lexical elements), in this project's own profile.
 pub fn tokens(alloc: Global, text: &[u8]) -> Result<List<Token>, LexFault>
     requires { length text.now ≤ LONGEST_INPUT }
     ensures lexes { result ≢ Err Memory → Lexes text.now 0 result }
     ensures computed { result ≢ Err Memory → result ≡ lexed text.now }
+    ensures few { IfOk result (λ tokens. length tokens ≤ length text.now) }
 {
     let mut tokens = List::new(alloc);
     let mut at = 0u32;
@@ -55,7 +63,7 @@ pub fn tokens(alloc: Global, text: &[u8]) -> Result<List<Token>, LexFault>
         let left = behind(text, at as usize);
         let size = front_length(left);
         let end = at + size as u32;
-        if let Some(kind) = kept(alloc, left, size, at)? {
+        if let Some(kind) = front_content(alloc, left, size, at)? {
             tokens.push(Token {
                 kind,
                 start: at,

@@ -1,7 +1,7 @@
 use Rattle.std.proofs.Common.{◌∙◌, ap, length, refl, arith}
 use Rattle.std.proofs.lemmas.List.{length-drop}
 use Rattle.star_lex.proofs.PieceLemmas.{cut_end, cut_on, cut_all}
-use Rattle.star_lex.proofs.cutting.pieces.Goals as goal
+use Rattle.star_lex.proofs.piece_spans.pieces.Goals as goal
 
 pub loop-at-init : goal.loop-at-init
 loop-at-init c = rw c.new-places.ensures ((length c.args.text.now, omega arith, refl), omega arith)
