@@ -1,6 +1,7 @@
 pub mod AllLemmas
 pub mod BoolLemmas
 pub mod ChoiceLemmas
+pub mod FirstFaultLemmas
 pub mod GroupLemmas
 pub mod KeyLemmas
 pub mod OrderLemmas
@@ -8,3 +9,4 @@ pub mod PlaceTestLemmas
 pub mod ProductLemmas
 pub mod RearrangementLemmas
 pub mod WidthLemmas
+pub mod ZipLemmas

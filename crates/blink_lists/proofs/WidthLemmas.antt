@@ -23,3 +23,7 @@ unfolding width_from
 width_from_next w n high more =
     let e : MOST_WIDTH + 1 - w ≡ suc (MOST_WIDTH + 1 - (w + 1)) = omega arith in
     rw e (let t = lt-leb n (2 ^ w) more in rw (t, least_width_from) refl)
+
+pub width_from_last : (n : ℕ) → width_from (MOST_WIDTH + 1) n ≡ MOST_WIDTH + 1
+unfolding width_from
+width_from_last n = refl

@@ -6,36 +6,10 @@ use Rattle.blink_base.specs.declared.value.Value.{Value}
 use Rattle.blink_base.specs.ReadValue.{read_value}
 use Rattle.blink_loader.specs.declared.batch.LoadFault.{LoadFault}
 use Rattle.blink_loader.specs.Records.{Record, same_name}
-use Rattle.blink_loader.specs.Batch.{before, value_of, values_from}
-
--- items in front of those that are left; a fault in what is left counts
-abbrev pub behind : {X : Type 0} → List X → Result (List X) LoadFault → Result (List X) LoadFault
-behind done (Err why) = Err why
-behind done (Ok left) = Ok (done ++ left)
-
--- none in front
-pub behind_none : {X : Type 0} (left : Result (List X) LoadFault) → behind [] left ≡ left
-behind_none (Err why) = refl
-behind_none (Ok left) = refl
-
--- one more is read
-pub behind_before : {X : Type 0} (done : List X) (x : X) (left : Result (List X) LoadFault) → behind done (before (Ok x) left) ≡ behind (done ++ x ∷ []) left
-behind_before done x (Err why) = refl
-behind_before done x (Ok left) = ap (λ all. Ok all) (sym (append_assoc done (x ∷ []) left))
-
--- the next pair of two lists of one length
-pub next_pair : {A B : Type 0} (xs : List A) (ys : List B) (k : ℕ) (x c : A) (y d : B) → k < length xs → length ys ≡ length xs → x ≡ get_or xs k c → y ≡ get_or ys k d
-    → drop k (zip xs ys) ≡ (x, y) ∷ drop (suc k) (zip xs ys)
-next_pair [] ys k x c y d h e p q = absurd (omega (arith, h))
-next_pair (a ∷ xs) [] k x c y d h e p q = absurd (omega (arith, e))
-next_pair (a ∷ xs) (b ∷ ys) zero x c y d h e p q = rw (p, q) refl
-next_pair (a ∷ xs) (b ∷ ys) (suc k) x c y d h e p q = next_pair xs ys k x c y d (omega (arith, h)) (omega (arith, e)) p q
-
--- no pair is left
-pub no_pair : {A B : Type 0} (xs : List A) (ys : List B) → drop (length xs) (zip xs ys) ≡ []
-no_pair [] ys = refl
-no_pair (a ∷ xs) [] = refl
-no_pair (a ∷ xs) (b ∷ ys) = no_pair xs ys
+use Rattle.blink_loader.specs.Batch.{value_of, values_from}
+use Rattle.blink_lists.specs.FirstFault.{before}
+use Rattle.blink_lists.proofs.ZipLemmas.{next_pair, no_pair}
+use Rattle.blink_lists.proofs.FirstFaultLemmas.{behind, behind_before}
 
 -- the next name of a header
 pub next_name : (columns : List Column) (fields : Record) (k : ℕ) (column : Column) (field : List ℕ) → k < length columns → length fields ≡ length columns

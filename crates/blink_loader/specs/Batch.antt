@@ -10,12 +10,7 @@ use Rattle.blink_base.specs.ReadValue.{read_value}
 use Rattle.blink_loader.specs.declared.batch.LoadFault.{LoadFault}
 use Rattle.blink_loader.specs.declared.batch.LoadFault.TheVariants as fault
 use Rattle.blink_loader.specs.Records.{Record, records_of, same_name}
-
--- something in front of what is behind it; the first fault counts
-abbrev pub before : {X : Type 0} → Result X LoadFault → Result (List X) LoadFault → Result (List X) LoadFault
-before (Err why) rest = Err why
-before (Ok first) (Err later) = Err later
-before (Ok first) (Ok rest) = Ok (first ∷ rest)
+use Rattle.blink_lists.specs.FirstFault.{before}
 
 -- what the field of this number in the record of this number says
 abbrev pub value_of : ℕ → ℕ → Result Value ValueFault → Result Value LoadFault

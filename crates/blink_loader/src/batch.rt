@@ -1,8 +1,9 @@
 // The rows of a text for a table.
-ghost use Rattle.std.specs.Prelude.{◌≡◌, ◌≢◌, ◌≤◌, ◌<◌, ◌+◌, ◌^◌, Err, length};
+ghost use Rattle.std.specs.Prelude.{◌≡◌, ◌≢◌, ◌≤◌, ◌<◌, ◌+◌, ◌^◌, Err, IfOk, IsTrue, length};
 ghost use Rattle.std.specs.List.{list_all, zip};
 ghost use Rattle.csv.specs.Records.{fields_of};
 ghost use Rattle.blink_base.specs.ReadValue.{read_value};
+ghost use Rattle.blink_base.specs.RowFits.{fits, is_entry};
 ghost use Rattle.blink_loader.specs.Records.{same_name};
 ghost use Rattle.blink_loader.specs.Batch.{value_of, values_from, row_of, rows_from, is_header, batch_over, batch};
 
@@ -66,7 +67,8 @@ fn value_of(
     field: u32,
     bytes: &[u8],
 ) -> Result<Value, LoadFault>
-    ensures { result ≢ Err LoadFault.Memory → result ≡ value_of at field (read_value kind bytes.now) }
+    ensures value { result ≢ Err LoadFault.Memory → result ≡ value_of at field (read_value kind bytes.now) }
+    ensures entry { IfOk result (λ value. IsTrue (is_entry kind value)) }
 {
     match Value::read(alloc, kind, bytes) {
         Ok(value) => Ok(value),
@@ -84,7 +86,9 @@ fn values_of(
 ) -> Result<Row, LoadFault>
     requires columns { length columns.now < 2 ^ 32 }
     requires fields { length (fields_of fields.now) ≡ length columns.now }
-    ensures { result ≢ Err LoadFault.Memory → result ≡ values_from at 1 (zip columns.now (fields_of fields.now)) }
+    ensures row { result ≢ Err LoadFault.Memory → result ≡ values_from at 1 (zip columns.now (fields_of fields.now)) }
+    ensures long { IfOk result (λ row. length row ≡ length columns.now) }
+    ensures entries { IfOk result (λ row. IsTrue (list_all (λ p. is_entry p.0.kind p.1) (zip columns.now row))) }
 {
     let Ok(mut values) = Vec::with_capacity(alloc, columns.len()) else {
         return Err(LoadFault::Memory);
@@ -100,25 +104,32 @@ fn values_of(
 }
 
 // The row of the record of this number.
-fn row_of(alloc: Global, columns: &[Column], at: u64, fields: &ByteRecord) -> Result<Row, LoadFault>
-    requires { length columns.now < 2 ^ 32 }
-    ensures { result ≢ Err LoadFault.Memory → result ≡ row_of columns.now at (fields_of fields.now) }
+fn row_of(
+    alloc: Global,
+    schema: &Schema,
+    at: u64,
+    fields: &ByteRecord,
+) -> Result<Row, LoadFault>
+    requires { length schema.now.columns < 2 ^ 32 }
+    ensures row { result ≢ Err LoadFault.Memory → result ≡ row_of schema.now.columns at (fields_of fields.now) }
+    ensures fit { IfOk result (λ row. IsTrue (fits schema.now row)) }
 {
-    if fields.len() != columns.len() {
+    if fields.len() != schema.columns.len() {
         return Err(LoadFault::Arity { at });
     }
-    values_of(alloc, columns, at, fields)
+    values_of(alloc, schema.columns.as_slice(), at, fields)
 }
 
 // The rows of the records that are left, counted from 1.
 fn rows_of(
     alloc: Global,
-    columns: &[Column],
+    schema: &Schema,
     records: &mut Records<'_>,
 ) -> Result<List<Row>, LoadFault>
-    requires columns { length columns.now < 2 ^ 32 }
+    requires columns { length schema.now.columns < 2 ^ 32 }
     requires records { length records.old + 1 < 2 ^ 64 }
-    ensures { result ≢ Err LoadFault.Memory → result ≡ rows_from columns.now 1 records.old }
+    ensures rows { result ≢ Err LoadFault.Memory → result ≡ rows_from schema.now.columns 1 records.old }
+    ensures fit { IfOk result (λ rows. IsTrue (list_all (fits schema.now) rows)) }
 {
     let mut rows = List::new(alloc);
     let mut at = 1u64;
@@ -129,7 +140,7 @@ fn rows_of(
         let Some(record) = next else {
             return Ok(rows);
         };
-        let row = row_of(alloc, columns, at, &record)?;
+        let row = row_of(alloc, schema, at, &record)?;
         let Ok(()) = rows.push(row) else {
             return Err(LoadFault::Memory);
         };
@@ -140,12 +151,13 @@ fn rows_of(
 // The rows of the records that are left, the first of them the header.
 fn batch_over(
     alloc: Global,
-    columns: &[Column],
+    schema: &Schema,
     records: &mut Records<'_>,
 ) -> Result<List<Row>, LoadFault>
-    requires columns { length columns.now < 2 ^ 32 }
+    requires columns { length schema.now.columns < 2 ^ 32 }
     requires records { length records.old + 1 < 2 ^ 64 }
-    ensures { result ≢ Err LoadFault.Memory → result ≡ batch_over columns.now records.old }
+    ensures rows { result ≢ Err LoadFault.Memory → result ≡ batch_over schema.now.columns records.old }
+    ensures fit { IfOk result (λ rows. IsTrue (list_all (fits schema.now) rows)) }
 {
     let Ok(first) = records.next() else {
         return Err(LoadFault::Memory);
@@ -153,16 +165,17 @@ fn batch_over(
     let Some(header) = first else {
         return Ok(List::new(alloc));
     };
-    if !is_header(columns, &header) {
+    if !is_header(schema.columns.as_slice(), &header) {
         return Err(LoadFault::Header);
     }
-    rows_of(alloc, columns, records)
+    rows_of(alloc, schema, records)
 }
 
 /// The rows of a CSV text for a table of at most 4,294,967,295 columns.
 ///
 /// The first record is the header, and each further one is a row, in the order of the text. A field is read as
-/// [`Value::read`] reads it for the kind of its column. A text without a record has no rows.
+/// [`Value::read`] reads it for the kind of its column. A text without a record has no rows. Each row that is read fits
+/// the schema.
 ///
 /// [`LoadFault::Header`] comes exactly where there is a first record and it isn't the names of the columns in order, the
 /// case of ASCII letters apart. Else the first record at fault decides: [`LoadFault::Arity`] where it has another number
@@ -175,7 +188,8 @@ fn batch_over(
 pub fn load(alloc: Global, schema: &Schema, bytes: &[u8]) -> Result<List<Row>, LoadFault>
     requires { length schema.now.columns ≤ 4294967295 }
     ensures batch { result ≢ Err LoadFault.Memory → result ≡ batch schema.now bytes.now }
+    ensures fit { IfOk result (λ rows. IsTrue (list_all (fits schema.now) rows)) }
 {
     let mut records = Records::new(alloc, bytes);
-    batch_over(alloc, schema.columns.as_slice(), &mut records)
+    batch_over(alloc, schema, &mut records)
 }

@@ -4,7 +4,7 @@ use Rattle.std.proofs.lemmas.List.{drop_more, drop_all, take-map}
 use Rattle.std.proofs.lemmas.Bool.{lt-ltb, le-ltb}
 use Rattle.blink_lists.specs.Lists.{put_in_order, in_order, numbered, numbered_from}
 use Rattle.freq_partition.specs.Division.{saving_cmp}
-use Rattle.freq_partition.specs.declared.column_choice.Saved.{Saved}
+use Rattle.freq_partition.specs.declared.column_choice.ColumnSaving.{ColumnSaving}
 use Rattle.freq_partition.specs.ColumnChoice.{column_and_saving}
 use Rattle.freq_partition.proofs.TopThreeLemmas.{take-put, map-put}
 
@@ -13,7 +13,7 @@ unfoldable pub savers_from : ℕ → List ℕ → List (ℕ × ℕ)
 savers_from i savings = in_order saving_cmp (filter (λ p. nat_lt 0 p.1) (numbered_from i (drop i savings)))
 
 -- a column that saves something is put among the greatest of those behind it
-pub saver_first : (by : Saved → Saved → Ordering) (same : (x y : Saved) → saving_cmp (column_and_saving x) (column_and_saving y) ≡ by x y) (new : Saved) (held held' : List Saved) (savings : List ℕ) (j : ℕ)
+pub saver_first : (by : ColumnSaving → ColumnSaving → Ordering) (same : (x y : ColumnSaving) → saving_cmp (column_and_saving x) (column_and_saving y) ≡ by x y) (new : ColumnSaving) (held held' : List ColumnSaving) (savings : List ℕ) (j : ℕ)
     → held' ≡ take 3 (put_in_order by new held) → map column_and_saving held ≡ take 3 (savers_from j savings)
     → j ≡ new.column + 1 → j ≤ length savings → new.saving.0 ≡ get_or savings new.column 0 → 0 < new.saving.0
     → map column_and_saving held' ≡ take 3 (savers_from new.column savings)

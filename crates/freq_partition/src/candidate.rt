@@ -1,15 +1,14 @@
-//! A list of classes with what they cost.
-
+// A candidate for the division: classes with what they cost.
 ghost use Rattle.std.specs.Prelude.{◌≡◌, ℕ, ◌+◌, ◌*◌, ◌^◌, ◌<◌, ◌≤◌, slice_index, Ok};
 
 use std::cmp::Ordering;
 
-/// What a class costs beside its codes.
+// What a class costs beside its codes.
 pub(crate) const CLASS_COST: u64 = 64;
 
-/// The first `count` widths and sizes are those of the classes.
+// The first `count` widths and sizes are those of the classes.
 #[derive(Drop)]
-pub(crate) struct Classes {
+pub(crate) struct Candidate {
     pub(crate) count: usize,
     widths: [u8; 4],
     pub(crate) sizes: [u32; 4],
@@ -19,15 +18,15 @@ pub(crate) struct Classes {
     ghost bounded: { cost ≤ count * 2 ^ 32 },
 }
 
-impl Classes {
+impl Candidate {
     ghost use Rattle.freq_partition.specs.Division.{no_classes, better, division_cmp};
     ghost use Rattle.freq_partition.specs.Candidate.{division_in, with_class};
 
-    /// No classes.
+    // No classes.
     pub(crate) fn none() -> Self
         ensures { division_in result ≡ no_classes }
     {
-        Classes {
+        Candidate {
             count: 0,
             widths: [0; 4],
             sizes: [0; 4],
@@ -35,7 +34,7 @@ impl Classes {
         }
     }
 
-    /// The classes and one more behind them, with so many rows.
+    // The classes and one more behind them, with so many rows.
     pub(crate) fn with_class(&self, width: u8, size: u32, rows: u64) -> Self
         requires room { self.now.count < 4 }
         requires bounded { width * rows < 2 ^ 31 }
@@ -45,7 +44,7 @@ impl Classes {
         let mut sizes = self.sizes;
         widths[self.count] = width;
         sizes[self.count] = size;
-        Classes {
+        Candidate {
             count: self.count + 1,
             widths,
             sizes,
@@ -53,7 +52,7 @@ impl Classes {
         }
     }
 
-    /// By cost, then by the number of classes, then by the widths.
+    // By cost, then by the number of classes, then by the widths.
     fn compare(&self, other: &Self) -> Ordering
         ensures { result ≡ division_cmp (division_in self.now) (division_in other.now) }
     {
@@ -62,7 +61,7 @@ impl Classes {
         self.cost.cmp(&other.cost).then(by_count.then(by_widths))
     }
 
-    /// The lesser of two, the first where they tie.
+    // The lesser of two, the first where they tie.
     pub(crate) fn better(self, other: Self) -> Self
         ensures { division_in result ≡ better (division_in self) (division_in other) }
     {

@@ -4,11 +4,11 @@ ghost use Rattle.std.specs.Prelude.{◌≡◌, ◌^◌, ◌≤◌, length, sum, 
 ghost use Rattle.freq_partition.specs.Candidate.{division_in};
 ghost use Rattle.freq_partition.specs.Division.{best_division, single_division, never_rises, IsLeastCost, padded};
 
-use crate::answer::{Cut, cut_of};
-use crate::candidate::{CLASS_COST, Classes};
-use crate::prefix_sums::{Ranked, rows_of};
-use crate::search::{search_behind, width_of, with_rest};
-use blink_lists::MOST_ROWS;
+use crate::best_cut::{Cut, cut_of};
+use crate::candidate::{CLASS_COST, Candidate};
+use crate::prefix_sums::{PrefixSums, rows_of};
+use crate::search::{search_behind, with_rest};
+use blink_lists::{MOST_ROWS, width_for};
 use std::alloc::{AllocError, Global};
 
 /// The best division of values with these counts into one to four classes; none for no counts.
@@ -27,15 +27,15 @@ pub fn cut(alloc: Global, counts: &[u64]) -> Result<Cut, AllocError>
     ensures cost { IfOk result (λ cut. cut.cost ≡ (best_division counts.now).cost) }
     ensures least { IfOk result (λ cut. IsLeastCost counts.now cut.cost) }
 {
-    let ranked = Ranked::new(alloc, counts)?;
+    let ranked = PrefixSums::new(alloc, counts)?;
     Ok(cut_of(&best_of(&ranked)))
 }
 
-/// The best division of these: up to three classes stand in front of the last.
-fn best_of(ranked: &Ranked<'_>) -> Classes
+// The best division of these: up to three classes stand in front of the last.
+fn best_of(ranked: &PrefixSums<'_>) -> Candidate
     ensures { division_in result ≡ best_division ranked.now.counts.now }
 {
-    let none = Classes::none();
+    let none = Candidate::none();
     if ranked.counts.is_empty() {
         return none;
     }
@@ -52,5 +52,5 @@ pub fn single(counts: &[u64]) -> u64
     if counts.is_empty() {
         return 0;
     }
-    u64::from(width_of(counts.len())) * rows_of(counts) + CLASS_COST
+    u64::from(width_for(counts.len())) * rows_of(counts) + CLASS_COST
 }

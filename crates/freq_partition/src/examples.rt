@@ -1,5 +1,4 @@
-//! Worked divisions, as facts that compute.
-
+// Worked divisions, as facts that compute.
 ghost use Rattle.freq_partition.specs.Examples.{OneOften, ThreeChosen};
 
 /// The best division of five counts.

@@ -10,26 +10,12 @@ use Rattle.blink_base.specs.declared.refusal.Refusal.TheVariants as refusal
 use Rattle.blink_base.specs.declared.schema.Schema.{Schema}
 use Rattle.blink_base.specs.Values.{Row}
 use Rattle.blink_base.specs.RowFits.{is_entry, fits}
-use Rattle.blink_loader.proofs.BatchLemmas.{next_pair, no_pair}
+use Rattle.blink_lists.proofs.ZipLemmas.{next_pair, no_pair}
 use Rattle.star_sql.specs.declared.ast.Literal.{Literal}
 use Rattle.star_sql.specs.Literals.{literal_value}
-use Rattle.star_engine.specs.InsertedRows.{before, value_or_refusal, written_values, written_row, written_from}
-
--- items in front of those that are left; a refusal in what is left counts
-abbrev pub behind : {X : Type 0} → List X → Result (List X) Refusal → Result (List X) Refusal
-behind done (Err why) = Err why
-behind done (Ok left) = Ok (done ++ left)
-
-pub behind_none : {X : Type 0} (left : Result (List X) Refusal) → left ≡ behind [] left
-behind_none (Err why) = refl
-behind_none (Ok left) = refl
-
-pub behind_before : {X : Type 0} (done : List X) (x : X) (left : Result (List X) Refusal) → behind done (before (Ok x) left) ≡ behind (done ++ x ∷ []) left
-behind_before done x (Err why) = refl
-behind_before done x (Ok left) = ap (λ all. Ok all) (sym (append_assoc done (x ∷ []) left))
-
-pub behind_refused : {X : Type 0} (done : List X) (why : Refusal) (left : Result (List X) Refusal) → behind done (before (Err why) left) ≡ Err why
-behind_refused done why left = refl
+use Rattle.star_engine.specs.InsertedRows.{value_or_refusal, written_values, written_row, written_from}
+use Rattle.blink_lists.specs.FirstFault.{before}
+use Rattle.blink_lists.proofs.FirstFaultLemmas.{behind, behind_before}
 
 -- the next literal of a row
 next_value : (columns : List Column) (literals : List Literal) (at k : ℕ) (column : Column) (literal : Literal) → k < length columns → length literals ≡ length columns
@@ -59,21 +45,6 @@ pub values_written : (columns : List Column) (literals : List Literal) (at k : �
     → behind done (written_values at (k + 1) (drop k (zip columns literals))) ≡ Ok done
 values_written columns literals at k done end = rw (end, no_pair columns literals) (search append-nil)
 
-pub no_entries : (cs : List Column) → list_all (λ p. is_entry p.0.kind p.1) (zip cs []) ≡ true
-no_entries [] = refl
-no_entries (d ∷ cs) = refl
-
--- one more entry
-pub entries_push : (columns : List Column) (values : List Value) (column : Column) (v : Value) → length values < length columns → column ≡ get_or columns (length values) column
-    → list_all (λ p. is_entry p.0.kind p.1) (zip columns values) ≡ true → is_entry column.kind v ≡ true
-    → list_all (λ p. is_entry p.0.kind p.1) (zip columns (values ++ v ∷ [])) ≡ true
-entries_push [] values column v h p all here = absurd (omega (arith, h))
-entries_push (c ∷ columns) [] column v h p all here = let first : is_entry c.kind v ≡ true = ap (λ (d : Column). is_entry d.kind v) (sym p) ∙ here in rw first (no_entries columns)
-entries_push (c ∷ columns) (w ∷ values) column v h p all here =
-    let parts = and_parts (is_entry c.kind w) (list_all (λ p. is_entry p.0.kind p.1) (zip columns values)) all in
-    and_from (is_entry c.kind w) (list_all (λ p. is_entry p.0.kind p.1) (zip columns (values ++ v ∷ []))) parts.0
-    (entries_push columns values column v (omega (arith, h)) p parts.1 here)
-
 -- one more row is written
 next_row : (rows : List (List Literal)) (k : ℕ) (row : List Literal) → k < length rows → row ≡ get_or rows k row → drop k rows ≡ row ∷ drop (suc k) rows
 next_row [] k row h p = absurd (omega (arith, h))
@@ -97,14 +68,6 @@ row_refused columns rows k row done why h p is = rw (next_rows columns rows k ro
 
 pub rows_written : (columns : List Column) (rows : List (List Literal)) (k : ℕ) (done : List Row) → length rows ≤ k → behind done (written_from columns (k + 1) (drop k rows)) ≡ Ok done
 rows_written columns rows k done end = rw (drop_all k rows end) (search append-nil)
-
-pub fits_push : (schema : Schema) (rows : List Row) (row : Row) → list_all (fits schema) rows ≡ true → fits schema row ≡ true → list_all (fits schema) (rows ++ row ∷ []) ≡ true
-fits_push schema [] row all here = and_from (fits schema row) true here refl
-fits_push schema (r ∷ rows) row all here = let parts = and_parts (fits schema r) (list_all (fits schema) rows) all in and_from (fits schema r) (list_all (fits schema) (rows ++ row ∷ [])) parts.0 (fits_push schema rows row parts.1 here)
-
--- a row of the schema's length whose values may stand in their columns
-pub fits_from : (schema : Schema) (row : Row) → length row ≡ length schema.columns → list_all (λ p. is_entry p.0.kind p.1) (zip schema.columns row) ≡ true → fits schema row ≡ true
-fits_from schema row long all = and_from (length row == length schema.columns) (list_all (λ p. is_entry p.0.kind p.1) (zip schema.columns row)) (eq-eqb (length row) (length schema.columns) long) all
 
 pub not_long : (columns : List Column) (at : ℕ) (row : List Literal) → length row ≢ length columns → written_row columns at row ≡ Err (refusal.Arity at)
 not_long columns at row other = let no : (length row == length columns) ≡ false = ne_eqb (length row) (length columns) other in rw (no, written_row) refl

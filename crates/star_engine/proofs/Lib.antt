@@ -1,5 +1,4 @@
 pub mod InsertedRowsLemmas
-pub mod LoadedRowsLemmas
 pub mod LiteralLemmas
 pub mod RefusalLemmas
 pub mod SchemaLemmas

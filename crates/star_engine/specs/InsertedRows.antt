@@ -9,12 +9,7 @@ use Rattle.blink_base.specs.declared.refusal.Refusal.TheVariants as refusal
 use Rattle.blink_base.specs.Values.{Row}
 use Rattle.star_sql.specs.declared.ast.Literal.{Literal}
 use Rattle.star_sql.specs.Literals.{literal_value}
-
--- something in front of what is behind it; the first refusal counts
-abbrev pub before : {X : Type 0} → Result X Refusal → Result (List X) Refusal → Result (List X) Refusal
-before (Err why) rest = Err why
-before (Ok first) (Err later) = Err later
-before (Ok first) (Ok rest) = Ok (first ∷ rest)
+use Rattle.blink_lists.specs.FirstFault.{before}
 
 -- the value in the field of this number in the row of this number, where its literal may stand there
 abbrev pub value_or_refusal : ℕ → ℕ → Option Value → Result Value Refusal

@@ -11,7 +11,7 @@ ghost use Rattle.star_engine.specs.LoadedRows.{are_written};
 ghost use Rattle.star_engine.specs.InsertedRows.{written_values, written_row, written_from};
 
 use crate::EngineError;
-use blink_base::{Column, Kind, LONGEST_TEXT, List, Refusal, Row, Schema, Value, Word};
+use blink_base::{Column, Kind, List, Refusal, Row, Schema, Value, Word};
 use star_sql::Literal;
 use std::alloc::{AllocError, Global};
 
@@ -29,10 +29,7 @@ fn text_value(alloc: Global, word: &Word) -> Result<Option<Value>, AllocError>
     ensures value { IfOk result (λ value. value ≡ text_if_short word.now) }
     ensures entry { IfOk result (λ value. IfSome value (λ v. IsTrue (is_entry Kind.Text v))) }
 {
-    if word.as_str().len() > LONGEST_TEXT {
-        return Ok(None);
-    }
-    Ok(Some(Value::Text(word.copy(alloc)?)))
+    Ok(Value::of_text(word.copy(alloc)?))
 }
 
 // A written date, as a value, where it is one.

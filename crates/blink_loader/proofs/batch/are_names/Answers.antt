@@ -1,6 +1,7 @@
 use Rattle.std.proofs.Common.{◌≡◌, ◌∙◌, length, refl, arith}
 use Rattle.csv.specs.Records.{fields_of}
-use Rattle.blink_loader.proofs.BatchLemmas.{next_name, no_pair}
+use Rattle.blink_loader.proofs.BatchLemmas.{next_name}
+use Rattle.blink_lists.proofs.ZipLemmas.{no_pair}
 use Rattle.blink_loader.proofs.batch.are_names.Goals as goal
 
 pub returns-then-not-same_name : goal.returns-then-not-same_name

@@ -1,12 +1,16 @@
-use Rattle.std.proofs.Common.{◌≡◌, ◌≤◌, ◌+◌, length}
+use Rattle.std.proofs.Common.{◌≡◌, ◌≤◌, ◌+◌, length, IsTrue}
+use Rattle.std.specs.List.{list_all}
+use Rattle.blink_base.specs.RowFits.{fits}
+use Rattle.blink_lists.proofs.FirstFaultLemmas.{behind}
 use Rattle.blink_loader.specs.Batch.{rows_from}
-use Rattle.blink_loader.proofs.BatchLemmas.{behind}
 use Rattle.blink_loader.proofs.batch.rows_of.Given as goal
 
 abbrev pub invariant-loop-next : goal.invariant-loop-next
-invariant-loop-next l =
-    (rows_from l.columns 1 l.initial.records ≡ behind l.rows (rows_from l.columns l.at l.records))
-    × (l.at + length l.records ≤ length l.initial.records + 1)
+invariant-loop-next l = record {
+  read : rows_from l.schema.columns 1 l.initial.records ≡ behind l.rows (rows_from l.schema.columns l.at l.records);
+  few : l.at + length l.records ≤ length l.initial.records + 1;
+  fit : IsTrue (list_all (fits l.schema) l.rows);
+}
 
 abbrev pub decreases-loop-next : goal.decreases-loop-next
 decreases-loop-next l = length l.records

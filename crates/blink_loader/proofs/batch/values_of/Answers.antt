@@ -1,24 +1,36 @@
-use Rattle.std.proofs.Common.{◌≡◌, ◌∙◌, sym, length, arith}
+use Rattle.std.proofs.Common.{◌≡◌, ◌<◌, ◌∙◌, sym, [], ◌∷◌, length, refl, arith, length-append}
 use Rattle.std.proofs.lemmas.Result.{err_from_is_err_and}
 use Rattle.csv.specs.Records.{fields_of}
+use Rattle.blink_base.specs.RowFits.{is_entry}
+use Rattle.blink_lists.proofs.FirstFaultLemmas.{behind_none}
+use Rattle.blink_lists.proofs.ZipLemmas.{all-zip-none, all-zip-push}
 use Rattle.blink_loader.proofs.BatchLemmas.{value_read, value_refused, values_read}
 use Rattle.blink_loader.proofs.batch.values_of.Goals as goal
 
-pub returns-in_err-value : goal.returns-in_err-value
-returns-in_err-value c =
+pub loop-place-init : goal.loop-place-init
+loop-place-init c = rw c.in-Ok.ensures.items (record { read = sym (behind_none _); long = refl; entries = all-zip-none (λ p. is_entry p.0.kind p.1) c.args.columns.now })
+
+pub returns-in_err-value-clause-row : goal.returns-in_err-value-clause-row
+returns-in_err-value-clause-row c =
     let p = err_from_is_err_and c.from_residual.result c.from_residual.ensures.1 in
     rw (p.1, p.2) (λ known.
-    sym (c.loop-place.invariant ∙ value_refused c.args.columns.now (fields_of c.args.fields.now) c.args.at c.loop-place.place c.index-columns-place.result c.field_of-bytes.result.now
-    c.loop-place.values.items c.in_err-value.field-0.0 c.loop-place-test.true c.requires.fields c.index-columns-place.is c.field_of-bytes.ensures (c.in_err-value.ensures (λ same. known (cc same)))))
+    sym (c.loop-place.invariant.read ∙ value_refused c.args.columns.now (fields_of c.args.fields.now) c.args.at c.loop-place.place c.index-columns-place.result c.field_of-bytes.result.now
+    c.loop-place.values.items c.in_err-value.field-0.0 c.loop-place-test.true c.requires.fields c.index-columns-place.is c.field_of-bytes.ensures (c.in_err-value.ensures.value (λ same. known (cc same)))))
 
 pub loop-place-preserved : goal.loop-place-preserved
 loop-place-preserved c =
     let next = value_read c.args.columns.now (fields_of c.args.fields.now) c.args.at c.loop-place.place c.index-columns-place.result c.field_of-bytes.result.now
-    c.loop-place.values.items c.in_ok-value.value c.loop-place-test.true c.requires.fields c.index-columns-place.is c.field_of-bytes.ensures (c.in_ok-value.ensures (λ same. cc)) in
-    rw c.in-Ok-push.ensures.items (c.loop-place.invariant ∙ next)
+    c.loop-place.values.items c.in_ok-value.value c.loop-place-test.true c.requires.fields c.index-columns-place.is c.field_of-bytes.ensures (c.in_ok-value.ensures.value (λ same. cc)) in
+    let long = c.loop-place.invariant.long in
+    let within : length c.loop-place.values.items < length c.args.columns.now = omega arith in
+    rw c.in-Ok-push.ensures.items (record {
+      read = c.loop-place.invariant.read ∙ next;
+      long = omega (arith, length-append c.loop-place.values.items (c.in_ok-value.value ∷ []));
+      entries = all-zip-push (λ p. is_entry p.0.kind p.1) c.args.columns.now c.loop-place.values.items c.index-columns-place.result c.in_ok-value.value within (rw long c.index-columns-place.is) c.loop-place.invariant.entries c.in_ok-value.ensures.entry;
+    })
 
-pub returns : goal.returns
-returns c =
+pub returns-clause-row : goal.returns-clause-row
+returns-clause-row c =
     let end : c.loop-place.place ≡ length c.args.columns.now = omega arith in
     let all = values_read c.args.columns.now (fields_of c.args.fields.now) c.args.at c.loop-place.place c.loop-place.values.items end in
-    λ known. rw c.from_vec.ensures (sym (c.loop-place.invariant ∙ all))
+    λ known. rw c.from_vec.ensures (sym (c.loop-place.invariant.read ∙ all))

@@ -1,7 +1,7 @@
 use Rattle.std.proofs.Common.{◌∙◌, ap}
 use Rattle.blink_base.specs.Dates.{date_of}
 use Rattle.blink_base.specs.ReadValue.{date_or_fault}
-use Rattle.star_engine.proofs.LiteralLemmas.{date_told, date_entries}
+use Rattle.star_engine.proofs.LiteralLemmas.{date_told}
 use Rattle.star_engine.proofs.written.date_value.Goals as goal
 
 pub returns-clause-value : goal.returns-clause-value

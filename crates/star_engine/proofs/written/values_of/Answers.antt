@@ -1,9 +1,12 @@
 use Rattle.std.proofs.Common.{◌≡◌, ◌∙◌, [], ◌∷◌, Ok, length, refl, sym, ap, ◌<◌, arith, length-append}
-use Rattle.star_engine.proofs.InsertedRowsLemmas.{behind_none, no_entries, value_written, value_refused, values_written, entries_push}
+use Rattle.star_engine.proofs.InsertedRowsLemmas.{value_written, value_refused, values_written}
+use Rattle.blink_lists.proofs.FirstFaultLemmas.{behind_none}
+use Rattle.blink_base.specs.RowFits.{is_entry}
+use Rattle.blink_lists.proofs.ZipLemmas.{all-zip-none, all-zip-push}
 use Rattle.star_engine.proofs.written.values_of.Goals as goal
 
 pub loop-place-init : goal.loop-place-init
-loop-place-init c = rw c.in_ok-values.ensures.items (record { made = behind_none _; long = refl; entries = no_entries c.args.columns.now })
+loop-place-init c = rw c.in_ok-values.ensures.items (record { made = sym (behind_none _); long = refl; entries = all-zip-none (λ p. is_entry p.0.kind p.1) c.args.columns.now })
 
 pub returns-in-None-clause-row : goal.returns-in-None-clause-row
 returns-in-None-clause-row c =
@@ -21,7 +24,7 @@ loop-place-preserved c =
     rw c.in-Ok.ensures.items (record {
       made = c.loop-place.invariant.made ∙ made;
       long = omega (arith, length-append c.loop-place.values.items (c.in-Some.value ∷ []));
-      entries = entries_push c.args.columns.now c.loop-place.values.items c.index-columns-place.result c.in-Some.value within (rw long c.index-columns-place.is) c.loop-place.invariant.entries (rw c.in-Some.is at c.in_ok-value.ensures.entry);
+      entries = all-zip-push (λ p. is_entry p.0.kind p.1) c.args.columns.now c.loop-place.values.items c.index-columns-place.result c.in-Some.value within (rw long c.index-columns-place.is) c.loop-place.invariant.entries (rw c.in-Some.is at c.in_ok-value.ensures.entry);
     })
 
 pub returns-clause-row : goal.returns-clause-row

@@ -2,7 +2,7 @@ use Rattle.std.proofs.Common.{◌≡◌, ◌+◌, length, drop, IsTrue}
 use Rattle.std.specs.List.{list_all, zip}
 use Rattle.blink_base.specs.RowFits.{is_entry}
 use Rattle.star_engine.specs.InsertedRows.{written_values}
-use Rattle.star_engine.proofs.InsertedRowsLemmas.{behind}
+use Rattle.blink_lists.proofs.FirstFaultLemmas.{behind}
 use Rattle.star_engine.proofs.written.values_of.Given as goal
 
 abbrev pub invariant-loop-place : goal.invariant-loop-place

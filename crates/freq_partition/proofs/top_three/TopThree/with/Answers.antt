@@ -1,8 +1,8 @@
 -- A value that stands first moves the others on.
 use Rattle.std.proofs.Common.{◌≡◌, ◌+◌, ◌⊎◌, inl, inr, true, is_le, min, arith}
 use Rattle.freq_partition.proofs.TopThreeLemmas.{put_first}
-use Rattle.freq_partition.proofs.top_three.Three.with.Goals as goal
-use Rattle.freq_partition.proofs.top_three.Three.with.Goals.{then-self-lt3, else-self-lt3, then-self-eq0, else-self-eq0}
+use Rattle.freq_partition.proofs.top_three.TopThree.with.Goals as goal
+use Rattle.freq_partition.proofs.top_three.TopThree.with.Goals.{then-self-lt3, else-self-lt3, then-self-eq0, else-self-eq0}
 
 pub returns-then-is_le-clause-least : goal.returns-then-is_le-clause-least
 returns-then-is_le-clause-least g c =

@@ -1,10 +1,9 @@
-//! The answer of a division.
-
+// The best division, as it is answered.
 ghost use Rattle.std.specs.Prelude.{◌≡◌, length};
 ghost use Rattle.freq_partition.specs.Candidate.{division_in};
 ghost use Rattle.freq_partition.specs.Division.{padded};
 
-use crate::candidate::Classes;
+use crate::candidate::Candidate;
 
 /// A division of ranked values into classes. Source: after Raman et al., ICDE 2008; the cost is this project's own.
 #[derive(Clone, Copy, Debug, PartialEq, Eq)]
@@ -17,16 +16,16 @@ pub struct Cut {
     pub cost: u64,
 }
 
-/// The sizes and the cost of these classes.
+// The sizes and the cost of a candidate.
 #[tactic(auto, using(crate::proofs::PaddingLemmas::padded_take))]
-pub(crate) fn cut_of(classes: &Classes) -> Cut
-    ensures count { result.count ≡ length (division_in classes.now).sizes }
-    ensures sizes { result.sizes ≡ padded 4 (division_in classes.now).sizes }
-    ensures cost { result.cost ≡ (division_in classes.now).cost }
+pub(crate) fn cut_of(candidate: &Candidate) -> Cut
+    ensures count { result.count ≡ length (division_in candidate.now).sizes }
+    ensures sizes { result.sizes ≡ padded 4 (division_in candidate.now).sizes }
+    ensures cost { result.cost ≡ (division_in candidate.now).cost }
 {
     Cut {
-        count: classes.count as u8,
-        sizes: classes.sizes,
-        cost: classes.cost,
+        count: candidate.count as u8,
+        sizes: candidate.sizes,
+        cost: candidate.cost,
     }
 }
