@@ -1,5 +1,5 @@
 -- What is answered to a statement, by what the engine answers.
-use Rattle.std.proofs.Common.{◌≡◌, ◌≢◌, ◌∙◌, ℕ, Bool, true, false, List, is_some, option_map, Option, Some, None, Result, Ok, Err, IfOk, OnErr, refl, sym, ap, subst}
+use Rattle.std.proofs.Common.{◌≡◌, ◌≢◌, ◌∙◌, ℕ, Bool, true, false, List, is_some, option_map, Option, Some, None, Result, Ok, Err, IfOk, OnErr, IsErrAnd, refl, sym, ap, subst}
 use Rattle.blink_base.specs.declared.limits.Limits.{Limits}
 use Rattle.blink_base.specs.declared.refusal.Refusal.{Refusal}
 use Rattle.blink_base.specs.declared.refusal.Refusal.TheVariants as refusal
@@ -19,7 +19,7 @@ use Rattle.star_engine.specs.Step.{Outcome, statement_step, holding, refuse, cha
 use Rattle.blink_base.specs.declared.limits.TheConstants.{LONGEST_CSV}
 use Rattle.blink_run.specs.Ends.{AreFiles}
 use Rattle.blink_run.specs.Script.{Finds}
-use Rattle.blink_run.specs.StatementOutput.{IsLine, IsRefusal, IsAdditionLine, IsStepped, IsReply, IsReplied, IsReplyFrom, IsFetched, IsStoreFault, loads, bytes_in}
+use Rattle.blink_run.specs.StatementOutput.{IsLine, IsRefusal, IsAdditionLine, IsStepped, IsReply, IsReplied, IsReplyFrom, IsFetched, IsStoreFault, IsStoreStop, loads, bytes_in}
 use Rattle.blink_run.specs.declared.output.Stop.{Stop}
 use Rattle.blink_run.specs.declared.output.Stop.TheVariants as stop
 use Rattle.blink_run.specs.declared.output.Output.{Output}
@@ -139,6 +139,15 @@ no_line_fault line refused (Ok output) is = λ fault. fault
 no_line_fault line refused (Err stop.Memory) is = λ fault. fault
 no_line_fault line refused (Err stop.Sink) is = λ fault. fault
 no_line_fault line refused (Err stop.Store) is = λ fault. absurd (cc is)
+
+-- a fault that is passed on
+pub fault_passed : {X : Type 0} (result : Result X Stop) (why : Stop) → IsErrAnd result (λ e. e ≡ why) → IsStoreFault result → IsStoreStop why
+fault_passed (Ok x) why is fault = absurd fault
+fault_passed (Err e) why is fault = let P : Stop → Type 0 = IsStoreStop in subst P is fault
+
+pub no_fault_passed : {X : Type 0} (result : Result X Stop) (why : Stop) → IsErrAnd result (λ e. e ≡ why) → ¬ (IsStoreFault result) → ¬ (IsStoreStop why)
+no_fault_passed (Ok x) why is never fault = absurd is
+no_fault_passed (Err e) why is never fault = let P : Stop → Type 0 = IsStoreStop in never (subst P (sym is) fault)
 
 -- nor does what is answered to rows that were added
 pub no_addition_fault : (added : Result ℕ EngineError) (result : Result Output Stop) → IsAdditionLine added result → ¬ (IsStoreFault result)

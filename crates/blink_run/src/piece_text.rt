@@ -1,7 +1,9 @@
 // What a piece of a script says.
-ghost use Rattle.std.specs.Prelude.{◌≡◌, ◌≤◌, true, false, length, IfOk, IfSome, IfNone};
+ghost use Rattle.std.specs.Prelude.{◌≡◌, ◌≤◌, true, false, length, Ok, IfOk, IfSome, IfNone};
 ghost use Rattle.blink_base.specs.declared.limits.TheConstants.{LONGEST_INPUT};
 ghost use Rattle.star_sql.specs.PieceStatement.{Says, is_passed_over};
+ghost use Rattle.star_sql.specs.declared.ast.Statement.{Statement as Stated};
+ghost use Rattle.blink_run.specs.StatementOutput.{HasFewTokens};
 
 use blink_base::Refusal;
 use star_lex::{LexFault, tokens};
@@ -16,6 +18,7 @@ pub(crate) fn said_by(alloc: Global, text: &[u8]) -> Result<Option<Said>, AllocE
     requires { length text.now ≤ LONGEST_INPUT }
     ensures passed { IfOk result (λ said. IfNone said (is_passed_over text.now ≡ true)) }
     ensures says { IfOk result (λ said. IfSome said (λ s. (is_passed_over text.now ≡ false) × Says text.now s)) }
+    ensures few { IfOk result (λ said. IfSome said (λ r. (s : Stated) → r ≡ Ok s → HasFewTokens s)) }
 {
     let tokens = match tokens(alloc, text) {
         Ok(tokens) => tokens,

@@ -9,7 +9,7 @@ ghost use Rattle.star_engine.specs.Step.{piece_asks_store};
 ghost use Rattle.star_engine.specs.EngineRepr.{HasTables, IsEngineOf};
 ghost use Rattle.blink_run.specs.Ends.{AreFiles, IsAsked};
 ghost use Rattle.blink_run.specs.Script.{NeverAsks};
-ghost use Rattle.blink_run.specs.StatementOutput.{IsAsking, IsSaidFrom, IsStoreFault, IsPieceAnswer};
+ghost use Rattle.blink_run.specs.StatementOutput.{HasFewTokens, IsAsking, IsSaidFrom, IsStoreFault, IsPieceAnswer};
 ghost use Rattle.blink_run.specs.PiecesRun.{AreAnswered, AreStopped, Stands, sink_view};
 ghost use Rattle.blink_run.specs.PieceSpans.{IsWithin, text_at};
 
@@ -32,6 +32,7 @@ fn answer_said<M: Ledger, S: Store>(
 ) -> Result<Output, Stop>
     requires sound { HasTables engine.old }
     requires formed { (s : Stated) → said.now ≡ Ok s → IsTrue (is_well_formed s) }
+    requires few { (s : Stated) → said.now ≡ Ok s → HasFewTokens s }
     ensures reply { (state : State) → IsEngineOf state.tables engine.old → AreFiles (S.files store.old) state.files
         → IsSaidFrom engine.old.limits (S.files store.old) (is_some (S.files store.old)) state said.now result engine.new }
     ensures sound { HasTables engine.new }

@@ -10,7 +10,7 @@ ghost use Rattle.blink_run.specs.Ends.{AreFiles, IsAsked};
 ghost use Rattle.report_text.specs.Texts.{refusal_bytes};
 ghost use Rattle.star_engine.specs.Step.{asks_store, fetched};
 ghost use Rattle.blink_base.specs.declared.limits.TheConstants.{LONGEST_CSV};
-ghost use Rattle.blink_run.specs.StatementOutput.{IsLine, IsReply, IsReplyFrom, IsFetched, IsStoreFault, bytes_in, loads};
+ghost use Rattle.blink_run.specs.StatementOutput.{HasFewTokens, IsLine, IsReply, IsReplyFrom, IsFetched, IsStoreFault, bytes_in, loads};
 
 use crate::output::{Output, Stop, addition, done, refused, refused_by};
 use blink_base::{LONGEST_CSV, List, Refusal, Word};
@@ -201,6 +201,7 @@ pub(crate) fn answer_statement<M: Ledger, S: Store>(
 ) -> Result<Output, Stop>
     requires sound { HasTables engine.old }
     requires formed { IsTrue (is_well_formed statement.now) }
+    requires few { HasFewTokens statement.now }
     ensures reply { (state : State) → IsEngineOf state.tables engine.old → AreFiles (S.files store.old) state.files
         → IsReplyFrom engine.old.limits (S.files store.old) (is_some (S.files store.old)) state statement.now result engine.new }
     ensures sound { HasTables engine.new }

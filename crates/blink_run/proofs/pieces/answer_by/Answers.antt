@@ -31,7 +31,6 @@ returns-in-Ok-clause-unasked g c state of not_asking =
     let says = rw c.in-Some.is at c.in_ok-said_by.ensures.says in
     c.answer_said.ensures.unasked state of (asks_nothing state c.args.text.now c.in-Some.said says.0 says.1 not_asking)
 
-
 pub returns-clause-unasked : goal.returns-clause-unasked
 returns-clause-unasked g c state of not_asking =
     let says = rw c.in-Some.is at c.in_ok-said_by.ensures.says in

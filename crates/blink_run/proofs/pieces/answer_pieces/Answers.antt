@@ -19,6 +19,7 @@ loop-place-init g c =
 
 pub loop-place-preserved : goal.loop-place-preserved
 loop-place-preserved g c =
+    let sink = sink_view g.W.Sink.given g.W.Sink.faults g.W.Sink.sure_room c.loop-place.output in
     let told_files = g.S.Store.files c.args.store.now in
     let now = g.S.Store.files c.loop-place.store in
     let f = text_at c.args.script.now in
@@ -35,7 +36,7 @@ loop-place-preserved g c =
       unasked = λ limits state stands never.
           let here = rw (← more) at never in
           let before = never_before limits (is_some told_files) state (map f (take i places)) (text ∷ []) here in
-          never_on limits told_files now c.loop-place.invariant.store.kept state (map f (take i places)) (text ∷ []) _ _ _ _ c.loop-place.engine
+          never_on limits told_files now c.loop-place.invariant.store.kept state (map f (take i places)) (text ∷ []) _ _ sink _ c.loop-place.engine
           (c.loop-place.invariant.answered limits state stands) (λ s p. c.in_ok-refused.ensures.unasked limits s p) here ∙ c.loop-place.invariant.unasked limits state stands before;
     }
 
@@ -65,6 +66,7 @@ returns-clause-unasked g c limits state stands never =
 
 pub returns-in_err-refused-clause-unasked : goal.returns-in_err-refused-clause-unasked
 returns-in_err-refused-clause-unasked g c limits state stands never =
+    let sink = sink_view g.W.Sink.given g.W.Sink.faults g.W.Sink.sure_room c.loop-place.output in
     let told_files = g.S.Store.files c.args.store.now in
     let now = g.S.Store.files c.loop-place.store in
     let f = text_at c.args.script.now in
@@ -75,5 +77,5 @@ returns-in_err-refused-clause-unasked g c limits state stands never =
     let split = pieces_split f places (i + 1) in
     let here = rw (← more) at (never_before limits (is_some told_files) state (map f (take (i + 1) places)) (map f (drop (i + 1) places)) (rw split never)) in
     let before = never_before limits (is_some told_files) state (map f (take i places)) (text ∷ []) here in
-    never_on limits told_files now c.loop-place.invariant.store.kept state (map f (take i places)) (text ∷ []) _ _ _ _ c.loop-place.engine
+    never_on limits told_files now c.loop-place.invariant.store.kept state (map f (take i places)) (text ∷ []) _ _ sink _ c.loop-place.engine
     (c.loop-place.invariant.answered limits state stands) (λ s p. c.in_err-refused.ensures.unasked limits s p) here ∙ c.loop-place.invariant.unasked limits state stands before

@@ -1,4 +1,4 @@
-use Rattle.std.proofs.Common.{◌∙◌, is_some}
+use Rattle.std.proofs.Common.{◌≡◌, ◌∙◌, is_some}
 use Rattle.blink_run.specs.Script.{start}
 use Rattle.blink_run.specs.PiecesRun.{sink_view}
 use Rattle.blink_run.specs.StatementOutput.{IsStoreFault}

@@ -48,11 +48,9 @@ pub returns-in_err-bytes-clause-unasked : goal.returns-in_err-bytes-clause-unask
 returns-in_err-bytes-clause-unasked g c state of missing =
     absurd (not_missing (λ x. x.now) table_of c.find.result state.tables c.args.name.now c.if-is_none.ensures (rw c.as_str.ensures at (c.find.ensures.held state.tables of)) missing)
 
-
 pub returns-in-Ok-clause-unasked : goal.returns-in-Ok-clause-unasked
 returns-in-Ok-clause-unasked g c state of missing =
     absurd (not_missing (λ x. x.now) table_of c.find.result state.tables c.args.name.now c.if-is_none.ensures (rw c.as_str.ensures at (c.find.ensures.held state.tables of)) missing)
-
 
 pub returns-in-Err-clause-unasked : goal.returns-in-Err-clause-unasked
 returns-in-Err-clause-unasked g c state of missing =

@@ -16,10 +16,10 @@ returns-in-Count-clause-store g c =
     let told_files = g.S.Store.files c.args.store.now in
     not_asked g.S.Store.files g.S.Store.faults g.S.Store.never_fails (c.answer_count.result ≡ StoreFault) c.args.store.now (λ e. no_store_fault (asked_of (Count c.in-Count.bounds)) tt (is_some told_files) (files_in told_files) c.args.input.now (stream_view g.W.Sink.given g.W.Sink.faults c.args.output.now) (stream_view g.W.Sink.given g.W.Sink.faults c.answer_count.new.output) c.answer_count.result e (c.answer_count.ensures.ends (is_some told_files) (files_in told_files)))
 
-pub returns-in-Unknown-clause-ends : goal.returns-in-Unknown-clause-ends
-returns-in-Unknown-clause-ends g c files are = rw c.in-Unknown.is (c.answer_usage.ensures.ends (is_some (g.S.Store.files c.args.store.now)) files c.args.input.now)
+pub returns-clause-ends : goal.returns-clause-ends
+returns-clause-ends g c files are = rw c.in-Unknown.is (c.answer_usage.ensures.ends (is_some (g.S.Store.files c.args.store.now)) files c.args.input.now)
 
-pub returns-in-Unknown-clause-store : goal.returns-in-Unknown-clause-store
-returns-in-Unknown-clause-store g c =
+pub returns-clause-store : goal.returns-clause-store
+returns-clause-store g c =
     let told_files = g.S.Store.files c.args.store.now in
     not_asked g.S.Store.files g.S.Store.faults g.S.Store.never_fails (c.answer_usage.result ≡ StoreFault) c.args.store.now (λ e. no_store_fault nothing_known tt (is_some told_files) (files_in told_files) c.args.input.now (stream_view g.W.Sink.given g.W.Sink.faults c.args.output.now) (stream_view g.W.Sink.given g.W.Sink.faults c.answer_usage.new.output) c.answer_usage.result e (c.answer_usage.ensures.ends (is_some told_files) (files_in told_files) c.args.input.now))
