@@ -5,7 +5,3 @@ use Rattle.blink_edge.specs.Causes.{last_count, next, Rose}
 -- it rises, or stands at its last value
 pub next_rises : (count : ℕ) → count ≤ last_count → Rose count (next count)
 next_rises count within = grind arith
-
--- a count that rose from a later value rose from an earlier one
-pub rose_before : (first later now : ℕ) → first ≤ later → Rose later now → Rose first now
-rose_before first later now le rose = grind arith

@@ -1,5 +1,5 @@
 // A source in memory.
-ghost use Rattle.std.specs.Prelude.{◌≡◌, ◌≤◌, ◌<◌, ◌↔◌, [], length, min, IfOk, IsErr, is_err, IsOk, is_some, Some};
+ghost use Rattle.std.specs.Prelude.{◌≡◌, ◌≤◌, ◌<◌, ◌↔◌, [], length, min, IfOk, IsErr, is_err, IsOk, OnOk, is_some, Some};
 ghost use Rattle.std.specs.Io.{ReadsAtMost};
 ghost use Rattle.std.specs.Io.KnownBytes.{ReadConsumes};
 ghost use Rattle.blink_edge.specs.Causes.{HasCause};
@@ -61,6 +61,7 @@ impl Source for BytesIn {
         ensures bytes { ReadConsumes (Some self.old.left) (Some self.new.left) result into.new }
         ensures told { is_some (Some self.new.left) ≡ is_some (Some self.old.left) }
         ensures cause { HasCause self.old.plan.faults self.new.plan.faults result }
+        ensures quiet { OnOk result (self.new.plan.faults ≡ self.old.plan.faults) }
         ensures sure { self.old.plan.failing ≡ [] → IsOk result × (self.new.plan.failing ≡ []) × (self.new.plan.faults ≡ self.old.plan.faults) }
 
         // It fails exactly at the planned calls, and only these raise the count of faults.

@@ -1,5 +1,5 @@
 // A sink in memory.
-ghost use Rattle.std.specs.Prelude.{◌≡◌, ◌≤◌, ◌<◌, ◌+◌, ◌↔◌, ◌⊎◌, [], length, IfOk, IsErr, is_err, IsOkAnd, is_some, Some};
+ghost use Rattle.std.specs.Prelude.{◌≡◌, ◌≤◌, ◌<◌, ◌+◌, ◌↔◌, ◌⊎◌, [], length, IfOk, IsErr, is_err, IsOkAnd, OnOk, is_some, Some};
 ghost use Rattle.std.specs.Io.{WritesAtMost};
 ghost use Rattle.std.specs.Io.KnownBytes.{WriteAppends};
 ghost use Rattle.blink_edge.specs.Causes.{HasCause};
@@ -69,6 +69,7 @@ impl Sink for BytesOut {
         ensures bytes { WriteAppends (Some self.old.given) (Some self.new.given) result bytes.now }
         ensures told { is_some (Some self.new.given) ≡ is_some (Some self.old.given) }
         ensures cause { HasCause self.old.plan.faults self.new.plan.faults result }
+        ensures quiet { OnOk result (self.new.plan.faults ≡ self.old.plan.faults) }
         ensures sure { 0 < length bytes.now → length bytes.now ≤ sure_room_of self.old.plan.failing self.old.room self.old.given
             → IsOkAnd result (λ n. sure_room_of self.old.plan.failing self.old.room self.old.given ≤ sure_room_of self.new.plan.failing self.new.room self.new.given + n)
             × (self.new.plan.faults ≡ self.old.plan.faults) }

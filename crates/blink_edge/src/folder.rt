@@ -3,6 +3,7 @@ ghost use Rattle.std.specs.Prelude.{◌≡◌, ◌≢◌, ◌≤◌, ◌+◌, []
 ghost use Rattle.std.specs.FinMap.{get, insert};
 ghost use Rattle.blink_edge.specs.Causes.{Rose, next};
 ghost use Rattle.blink_edge.specs.Files.{IsFound, KeepsOthers};
+ghost use Rattle.blink_edge.specs.Memory.{is_failed};
 ghost use Rattle.blink_edge.specs.declared.store.Found.TheVariants.{Whole, Long, Absent};
 ghost use Rattle.blink_edge.specs.declared.store.StoreError.TheVariants.{Failed, Memory};
 
@@ -13,7 +14,7 @@ use std::fs::Files;
 use std::io::ErrorKind;
 
 /// A store over the files of the system. A name is a path, relative to the current directory. It tells nothing of its
-/// files, and counts each error that it answers. Source: this project's own.
+/// files, and counts each fault that it answers. Source: this project's own.
 #[derive(Drop)]
 pub struct Folder<F> {
     system: F,
@@ -81,21 +82,22 @@ impl<F: Files> Store for Folder<F> {
         ensures found { IfOk result (λ found. IfSome untold (λ held. IsFound (get held name.now) limit into.new.items found)) }
         ensures files { untold ≡ untold }
         ensures failed { result ≡ Err Failed → Rose (folder_faults self.old) (folder_faults self.new) }
+        ensures quiet { result ≢ Err Failed → folder_faults self.new ≡ folder_faults self.old }
         ensures later { folder_faults self.old ≤ folder_faults self.new }
         ensures sure { ⊥ → (result ≢ Err Failed) × ⊥ × (folder_faults self.new ≡ folder_faults self.old) }
 
-        // The bytes are within the limit, or one more was read; the empty name has no file; each error is counted.
+        // The bytes are within the limit, or one more was read; the empty name has no file; each fault is counted.
         ensures whole { result ≡ Ok Whole → length into.new.items ≤ limit }
         ensures long { result ≡ Ok Long → length into.new.items ≡ limit + 1 }
         ensures empty { name.now ≡ [] → result ≡ Ok Absent }
-        ensures counted { folder_faults self.new ≡ (if is_err result then next (folder_faults self.old) else folder_faults self.old) }
+        ensures counted { folder_faults self.new ≡ (if is_failed result then next (folder_faults self.old) else folder_faults self.old) }
         ensures system { system_under self.new ≡ system_under self.old }
     {
         if name.is_empty() {
             return Ok(Found::Absent);
         }
         let result = read_file(&self.system, name, limit, into);
-        if result.is_err() {
+        if let Err(StoreError::Failed) = result {
             self.faults = one_more(self.faults);
         }
         result
@@ -109,10 +111,11 @@ impl<F: Files> Store for Folder<F> {
         ensures memory { result ≡ Err Memory → untold ≡ untold }
         ensures told { is_some untold ≡ is_some untold }
         ensures failed { result ≡ Err Failed → Rose (folder_faults self.old) (folder_faults self.new) }
+        ensures quiet { result ≢ Err Failed → folder_faults self.new ≡ folder_faults self.old }
         ensures later { folder_faults self.old ≤ folder_faults self.new }
         ensures sure { ⊥ → (result ≢ Err Failed) × ⊥ × (folder_faults self.new ≡ folder_faults self.old) }
 
-        // Memory never runs out, and each error is counted.
+        // Memory never runs out, and each fault is counted.
         ensures no_memory { result ≢ Err Memory }
         ensures counted { folder_faults self.new ≡ (if is_err result then next (folder_faults self.old) else folder_faults self.old) }
         ensures system { system_under self.new ≡ system_under self.old }

@@ -9,6 +9,7 @@
 mod bytes_in;
 mod bytes_out;
 mod count;
+mod failed;
 mod fault_plan;
 mod folder;
 mod shelf;
@@ -20,13 +21,11 @@ mod whole;
 
 pub use bytes_in::BytesIn;
 pub use bytes_out::BytesOut;
+pub use failed::Failed;
 pub use folder::Folder;
 pub use shelf::Shelf;
 pub use sink::Sink;
-pub use source::{Failed, Source};
+pub use source::Source;
 pub use store::{Found, Store, StoreError};
 pub use streams::{StdIn, StdOut};
 pub use whole::{ReadError, Taken, read_all, write_all};
-
-#[cfg(test)]
-mod tests;

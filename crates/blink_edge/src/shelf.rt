@@ -114,6 +114,7 @@ impl Store for Shelf {
         ensures found { IfOk result (λ found. IfSome (Some self.old.files) (λ held. IsFound (get held name.now) limit into.new.items found)) }
         ensures files { Some self.new.files ≡ Some self.old.files }
         ensures failed { result ≡ Err Failed → Rose self.old.plan.faults self.new.plan.faults }
+        ensures quiet { result ≢ Err Failed → self.new.plan.faults ≡ self.old.plan.faults }
         ensures later { self.old.plan.faults ≤ self.new.plan.faults }
         ensures sure { self.old.plan.failing ≡ [] → (result ≢ Err Failed) × (self.new.plan.failing ≡ []) × (self.new.plan.faults ≡ self.old.plan.faults) }
 
@@ -145,6 +146,7 @@ impl Store for Shelf {
         ensures memory { result ≡ Err Memory → Some self.new.files ≡ Some self.old.files }
         ensures told { is_some (Some self.new.files) ≡ is_some (Some self.old.files) }
         ensures failed { result ≡ Err Failed → Rose self.old.plan.faults self.new.plan.faults }
+        ensures quiet { result ≢ Err Failed → self.new.plan.faults ≡ self.old.plan.faults }
         ensures later { self.old.plan.faults ≤ self.new.plan.faults }
         ensures sure { self.old.plan.failing ≡ [] → (result ≢ Err Failed) × (self.new.plan.failing ≡ []) × (self.new.plan.faults ≡ self.old.plan.faults) }
 

@@ -42,23 +42,27 @@ pub trait Store {
 
     /// Makes `into` the content of the name's file, where it has at most `limit` bytes.
     ///
-    /// It changes no file. After an answer other than [`Found::Whole`], `into` may hold anything.
+    /// It changes no file. After an answer other than [`Found::Whole`], `into` may hold anything. Each answer but
+    /// [`StoreError::Failed`] keeps the count of faults.
     fn fetch(&mut self, name: &str, limit: u64, into: &mut Vec<u8>) -> Result<Found, StoreError>
         ensures found { IfOk result (λ found. IfSome (files self.old) (λ held. IsFound (get held name.now) limit into.new.items found)) }
         ensures files { files self.new ≡ files self.old }
         ensures failed { result ≡ Err Failed → Rose (faults self.old) (faults self.new) }
+        ensures quiet { result ≢ Err Failed → faults self.new ≡ faults self.old }
         ensures later { faults self.old ≤ faults self.new }
         ensures sure { never_fails self.old → (result ≢ Err Failed) × never_fails self.new × (faults self.new ≡ faults self.old) };
 
     /// Makes the name's file these bytes, and keeps all other files.
     ///
-    /// After [`StoreError::Failed`] that one file may hold anything; [`StoreError::Memory`] changes nothing.
+    /// After [`StoreError::Failed`] that one file may hold anything; [`StoreError::Memory`] changes nothing. Each answer
+    /// but [`StoreError::Failed`] keeps the count of faults.
     fn put(&mut self, name: &str, bytes: &[u8]) -> Result<(), StoreError>
         ensures put { OnOk result (files self.new ≡ option_map (λ held. insert held name.now bytes.now) (files self.old)) }
         ensures others { OnErr result (IfSome (files self.old) (λ old. IfSome (files self.new) (KeepsOthers name.now old))) }
         ensures memory { result ≡ Err Memory → files self.new ≡ files self.old }
         ensures told { is_some (files self.new) ≡ is_some (files self.old) }
         ensures failed { result ≡ Err Failed → Rose (faults self.old) (faults self.new) }
+        ensures quiet { result ≢ Err Failed → faults self.new ≡ faults self.old }
         ensures later { faults self.old ≤ faults self.new }
         ensures sure { never_fails self.old → (result ≢ Err Failed) × never_fails self.new × (faults self.new ≡ faults self.old) };
 }

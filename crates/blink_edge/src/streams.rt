@@ -1,5 +1,5 @@
 // The streams of the system, which tell nothing of their bytes.
-ghost use Rattle.std.specs.Prelude.{◌≡◌, ◌≤◌, ◌<◌, ◌+◌, ℕ, List, length, None, is_some, is_err, IfOk, IsOk, IsOkAnd, if◌then◌else◌};
+ghost use Rattle.std.specs.Prelude.{◌≡◌, ◌≤◌, ◌<◌, ◌+◌, ℕ, List, length, None, is_some, is_err, IfOk, IsOk, IsOkAnd, OnOk, if◌then◌else◌};
 ghost use Rattle.std.specs.Io.{ReadsAtMost, WritesAtMost};
 ghost use Rattle.std.specs.Io.KnownBytes.{ReadConsumes, WriteAppends};
 ghost use Rattle.blink_edge.specs.Causes.{HasCause, next};
@@ -42,6 +42,7 @@ impl<R: Read> Source for StdIn<R> {
         ensures bytes { ReadConsumes None None result into.new }
         ensures told { is_some {T = List ℕ} None ≡ is_some {T = List ℕ} None }
         ensures cause { HasCause (source_faults self.old) (source_faults self.new) result }
+        ensures quiet { OnOk result (source_faults self.new ≡ source_faults self.old) }
         ensures sure { ⊥ → IsOk result × ⊥ × (source_faults self.new ≡ source_faults self.old) }
 
         // The bytes are the reader's, and each of its errors is counted.
@@ -95,6 +96,7 @@ impl<W: Write> Sink for StdOut<W> {
         ensures bytes { WriteAppends None None result bytes.now }
         ensures told { is_some {T = List ℕ} None ≡ is_some {T = List ℕ} None }
         ensures cause { HasCause (sink_faults self.old) (sink_faults self.new) result }
+        ensures quiet { OnOk result (sink_faults self.new ≡ sink_faults self.old) }
         ensures sure { 0 < length bytes.now → length bytes.now ≤ 0 → IsOkAnd result (λ n. 0 ≤ 0 + n) × (sink_faults self.new ≡ sink_faults self.old) }
 
         // The bytes go to the writer, and each of its errors is counted.

@@ -1,5 +1,5 @@
 // A source read to its end, and a piece given whole.
-ghost use Rattle.std.specs.Prelude.{◌≡◌, ◌≤◌, ◌<◌, ◌+◌, List, [], ℕ, length, take, OnOk, OnErr, Ok, Err, IsOk};
+ghost use Rattle.std.specs.Prelude.{◌≡◌, ◌≢◌, ◌≤◌, ◌<◌, ◌+◌, List, [], ℕ, length, take, OnOk, OnErr, Ok, Err, IsOk};
 ghost use Rattle.std.specs.Io.KnownBytes.{Appends, Consumes, IsAtEnd};
 ghost use Rattle.blink_edge.specs.Causes.{HasCause, Rose, last_count};
 
@@ -29,11 +29,13 @@ pub enum ReadError {
     Memory,
 }
 
-/// Gives all the bytes to a sink. At [`Failed`] a proper prefix of them was given. It takes no memory.
+/// Gives all the bytes to a sink. At [`Failed`] a proper prefix of them was given. The first fault is
+/// answered: all bytes are given only where the count of faults stays. It takes no memory.
 pub fn write_all<W: Sink>(sink: &mut W, bytes: &[u8]) -> Result<(), Failed>
     ensures all { OnOk result (Appends (W.given sink.old) (W.given sink.new) bytes.now) }
     ensures part { OnErr result ((k : ℕ) × (k < length bytes.now) × Appends (W.given sink.old) (W.given sink.new) (take k bytes.now)) }
     ensures cause { HasCause (W.faults sink.old) (W.faults sink.new) result }
+    ensures quiet { OnOk result (W.faults sink.new ≡ W.faults sink.old) }
     ensures sure { length bytes.now ≤ W.sure_room sink.old
         → IsOk result × (W.sure_room sink.old ≤ W.sure_room sink.new + length bytes.now) × (W.faults sink.new ≡ W.faults sink.old) }
 {
@@ -48,7 +50,7 @@ pub fn write_all<W: Sink>(sink: &mut W, bytes: &[u8]) -> Result<(), Failed>
 ///
 /// [`Taken::Whole`] read to the end, and `into` holds all bytes, at most `limit`. [`Taken::Long`] comes exactly where one
 /// more was taken; `into` holds them too. After an error `into` may hold anything, and [`ReadError::Failed`] comes only
-/// where at most `limit` bytes were taken.
+/// where at most `limit` bytes were taken. The first fault is answered: any other answer keeps the count of faults.
 pub fn read_all<R: Source>(
     source: &mut R,
     limit: u64,
@@ -65,6 +67,7 @@ pub fn read_all<R: Source>(
     ensures part { OnErr result ((taken : List ℕ) × Consumes (R.left source.old) (R.left source.new) taken
         × (length taken ≤ limit + 1) × (result ≡ Err ReadError.Failed → length taken ≤ limit)) }
 
+    ensures quiet { result ≢ Err ReadError.Failed → R.faults source.new ≡ R.faults source.old }
     ensures later { R.faults source.old ≤ R.faults source.new }
     ensures sure { R.never_fails source.old → R.never_fails source.new × (R.faults source.new ≡ R.faults source.old) }
 {

@@ -8,28 +8,28 @@ use Rattle.blink_edge.specs.Files as store
 use Rattle.star_engine.specs.State.{Files}
 use Rattle.report_text.specs.Texts.{Bytes}
 use Rattle.blink_run.specs.Program.{Asked, to_run, to_count, nothing_known, Told, status_of}
-use Rattle.blink_run.specs.Ends.{Shown, Outside, AreFiles, AsksNothing, ReadsInput, IsReadWhole, IsRead, Gives, AskedGiven, Ends, IsComplete, IsAnswerOrMemory}
+use Rattle.blink_run.specs.Ends.{StreamView, Outside, AreFiles, AsksNothing, ReadsInput, IsReadWhole, IsRead, Gives, AskedGiven, Ends, IsComplete, IsAnswerOrMemory}
 use Rattle.blink_run.specs.Request.{asked_of}
-use Rattle.blink_run.specs.declared.words.Request.{Request}
-use Rattle.blink_run.specs.declared.words.Request.TheVariants.{Run, Count, Unknown}
+use Rattle.blink_run.specs.declared.args.Request.{Request}
+use Rattle.blink_run.specs.declared.args.Request.TheVariants.{Run, Count, Unknown}
 use Rattle.blink_run.specs.declared.status.Status.{Status}
 use Rattle.blink_run.specs.declared.status.Status.TheVariants as status
 
 -- the files that a store tells, and none where it tells nothing
-abbrev pub files_told : Option store.Files → Files
-files_told None name = None
-files_told (Some held) name = get held name
+abbrev pub files_in : Option store.Files → Files
+files_in None name = None
+files_in (Some told_files) name = get told_files name
 
-pub are_told : (held : Option store.Files) → AreFiles held (files_told held)
+pub are_told : (told_files : Option store.Files) → AreFiles told_files (files_in told_files)
 are_told None = tt
-are_told (Some held) = λ name. refl
+are_told (Some told_files) = λ name. refl
 
--- words in no form read nothing
-pub nothing_read : (source : Shown) → IsRead nothing_known source source []
+-- arguments in no form read nothing
+pub nothing_read : (source : StreamView) → IsRead nothing_known source source []
 nothing_read source = (refl, refl)
 
 -- an input that was read whole was read
-pub read_whole : (asked : Asked) (old new : Shown) (input : Bytes) → ReadsInput asked → IsReadWhole old new input → IsRead asked old new input
+pub read_whole : (asked : Asked) (old new : StreamView) (input : Bytes) → ReadsInput asked → IsReadWhole old new input → IsRead asked old new input
 read_whole (to_run limits) old new input reads whole = whole
 read_whole (to_count column low high) old new input reads whole = whole
 read_whole nothing_known old new input reads whole = absurd reads
@@ -53,7 +53,7 @@ ends_by asked old new input files status.StoreFault read are rose gives = (rose 
 ends_by asked old new input files status.Long read are rose gives = absurd gives
 
 -- where no script is asked for, no statement asks the store
-pub no_store_fault : (asked : Asked) → AsksNothing asked → (stay : Bool) (files : Files) (input : Bytes) (old new : Shown) (answer : Status) → answer ≡ status.StoreFault → Gives asked stay files input old new answer → ⊥
+pub no_store_fault : (asked : Asked) → AsksNothing asked → (stay : Bool) (files : Files) (input : Bytes) (old new : StreamView) (answer : Status) → answer ≡ status.StoreFault → Gives asked stay files input old new answer → ⊥
 no_store_fault (to_run limits) nothing stay files input old new answer is gives = absurd nothing
 no_store_fault (to_count column low high) nothing stay files input old new answer is gives =
     let P : Status → Type 0 = λ s. Gives (to_count column low high) stay files input old new s in subst P is gives
@@ -75,7 +75,7 @@ no_usage (to_count column low high) told reads is = by_case told.refused is
 no_usage nothing_known told reads is = absurd reads
 
 -- a script and a count are answered where no count of faults rose
-pub finishes : (asked : Asked) (stay : Bool) (files : Files) (input : Bytes) (old new : Shown) (answer : Status) → ReadsInput asked → ¬ (Rose old.faults new.faults)
+pub finishes : (asked : Asked) (stay : Bool) (files : Files) (input : Bytes) (old new : StreamView) (answer : Status) → ReadsInput asked → ¬ (Rose old.faults new.faults)
     → (AskedGiven asked stay files input old new → answer ≡ status.StoreFault → ⊥) → Gives asked stay files input old new answer → IsAnswerOrMemory answer
 finishes asked stay files input old new status.Done reads calm still gives = tt
 finishes asked stay files input old new status.Refused reads calm still gives = tt
@@ -86,8 +86,8 @@ finishes asked stay files input old new status.Memory reads calm still gives = t
 finishes asked stay files input old new status.StoreFault reads calm still gives = absurd (still gives refl)
 finishes asked stay files input old new status.Long reads calm still gives = absurd gives
 
--- words in no form end with the usage line where no count of faults rose
-pub tells_usage : (stay : Bool) (files : Files) (input : Bytes) (old new : Shown) (answer : Status) → ¬ (Rose old.faults new.faults) → Gives nothing_known stay files input old new answer → answer ≡ status.Usage
+-- arguments in no form end with the usage line where no count of faults rose
+pub tells_usage : (stay : Bool) (files : Files) (input : Bytes) (old new : StreamView) (answer : Status) → ¬ (Rose old.faults new.faults) → Gives nothing_known stay files input old new answer → answer ≡ status.Usage
 tells_usage stay files input old new status.Done calm gives = gives.3
 tells_usage stay files input old new status.Refused calm gives = gives.3
 tells_usage stay files input old new status.Usage calm gives = refl

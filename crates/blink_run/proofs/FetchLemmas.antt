@@ -46,22 +46,22 @@ abbrev pub with_file : State → Option Bytes → State
 with_file state file = record { tables = state.tables; files = λ name. file }
 
 -- a file whose bytes are there
-pub whole_fetched : (held : Option store.Files) (state : State) (name bytes : Bytes) (got : Result (Vec ℕ Global) Refusal) → bytes_in got ≡ fetched LONGEST_CSV (Some bytes)
-    → IfSome held (λ files. IsFound (get files name) LONGEST_CSV bytes Whole) → AreFiles held state.files → IsFetched held (is_some held) state name got
+pub whole_fetched : (told_files : Option store.Files) (state : State) (name bytes : Bytes) (got : Result (Vec ℕ Global) Refusal) → bytes_in got ≡ fetched LONGEST_CSV (Some bytes)
+    → IfSome told_files (λ files. IsFound (get files name) LONGEST_CSV bytes Whole) → AreFiles told_files state.files → IsFetched told_files (is_some told_files) state name got
 whole_fetched None state name bytes got is looked files = record { found = with_file state (Some bytes); finds = refl; files = tt; bytes = sym is }
-whole_fetched (Some held) state name bytes got is looked files =
-    record { found = state; finds = refl; files = files; bytes = ap (fetched LONGEST_CSV) (files name ∙ is_whole LONGEST_CSV (get held name) bytes looked) ∙ sym is }
+whole_fetched (Some told_files) state name bytes got is looked files =
+    record { found = state; finds = refl; files = files; bytes = ap (fetched LONGEST_CSV) (files name ∙ is_whole LONGEST_CSV (get told_files name) bytes looked) ∙ sym is }
 
 -- a file that isn't there
-pub absent_fetched : (held : Option store.Files) (state : State) (name bytes : Bytes) → IfSome held (λ files. IsFound (get files name) LONGEST_CSV bytes Absent)
-    → AreFiles held state.files → IsFetched held (is_some held) state name (Err refusal.NoFile)
+pub absent_fetched : (told_files : Option store.Files) (state : State) (name bytes : Bytes) → IfSome told_files (λ files. IsFound (get files name) LONGEST_CSV bytes Absent)
+    → AreFiles told_files state.files → IsFetched told_files (is_some told_files) state name (Err refusal.NoFile)
 absent_fetched None state name bytes looked files = record { found = with_file state None; finds = refl; files = tt; bytes = refl }
-absent_fetched (Some held) state name bytes looked files =
-    record { found = state; finds = refl; files = files; bytes = ap (fetched LONGEST_CSV) (files name ∙ is_absent LONGEST_CSV (get held name) bytes looked) }
+absent_fetched (Some told_files) state name bytes looked files =
+    record { found = state; finds = refl; files = files; bytes = ap (fetched LONGEST_CSV) (files name ∙ is_absent LONGEST_CSV (get told_files name) bytes looked) }
 
 -- a file that is too long
-pub long_fetched : (held : Option store.Files) (state : State) (name bytes : Bytes) → IfSome held (λ files. IsFound (get files name) LONGEST_CSV bytes Long)
-    → AreFiles held state.files → IsFetched held (is_some held) state name (Err refusal.FileTooLong)
+pub long_fetched : (told_files : Option store.Files) (state : State) (name bytes : Bytes) → IfSome told_files (λ files. IsFound (get files name) LONGEST_CSV bytes Long)
+    → AreFiles told_files state.files → IsFetched told_files (is_some told_files) state name (Err refusal.FileTooLong)
 long_fetched None state name bytes looked files = record { found = with_file state (Some (longer LONGEST_CSV).0); finds = refl; files = tt; bytes = longer_long LONGEST_CSV }
-long_fetched (Some held) state name bytes looked files =
-    record { found = state; finds = refl; files = files; bytes = ap (fetched LONGEST_CSV) (files name) ∙ is_long LONGEST_CSV (get held name) bytes looked }
+long_fetched (Some told_files) state name bytes looked files =
+    record { found = state; finds = refl; files = files; bytes = ap (fetched LONGEST_CSV) (files name) ∙ is_long LONGEST_CSV (get told_files name) bytes looked }

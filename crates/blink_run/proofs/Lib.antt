@@ -9,6 +9,7 @@ pub mod PieceSpanLemmas
 pub mod PieceStatementLemmas
 pub mod PiecesRunLemmas
 pub mod RequestLemmas
+pub mod ScriptLemmas
 pub mod ScriptOutputLemmas
 pub mod StatementOutputLemmas
 pub mod StoreAskedLemmas

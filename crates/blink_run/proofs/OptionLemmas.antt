@@ -1,4 +1,4 @@
--- The limits that words say are some that an engine may have.
+-- The limits that arguments say are some that an engine may have.
 use Rattle.std.proofs.Common.{◌≡◌, ◌≤◌, ℕ, ℤ, pos, negsuc, Bool, true, false, ◌&&◌, List, [], ◌∷◌, length, map, nat_le, refl, arith}
 use Rattle.std.specs.Prelude.{Option, Some, None, if◌then◌else◌}
 use Rattle.std.specs.Str.{bytes_eq}
@@ -59,8 +59,8 @@ few_rows word number = few_option _ 8388608 word number
 few_blocks : (word number : Bytes) → IsFew 2097152 (blocks_option word number)
 few_blocks word number = few_option _ 2097152 word number
 
--- the limits that words say
-pub limits_few : (words : List Bytes) → AreFew (limits_of words)
+-- the limits that arguments say
+pub limits_few : (args : List Bytes) → AreFew (limits_of args)
 limits_few [] = record { rows = omega arith; blocks = omega arith }
 limits_few (a ∷ []) = tt
 limits_few (a ∷ n ∷ []) =
@@ -74,9 +74,9 @@ limits_few (a ∷ n ∷ b ∷ m ∷ []) =
     (few_made (rows_option b m) (blocks_option a n) (few_rows b m) (few_blocks a n))
 limits_few (a ∷ n ∷ b ∷ m ∷ c ∷ rest) = tt
 
--- limits that words say are allowed
-pub options_allowed : (words : List Bytes) (limits : Limits) → Some limits ≡ limits_of words → AreLimits limits
-options_allowed words limits is = by (limits_of words) (limits_few words) is
+-- limits that arguments say are allowed
+pub options_allowed : (args : List Bytes) (limits : Limits) → Some limits ≡ limits_of args → AreLimits limits
+options_allowed args limits is = by (limits_of args) (limits_few args) is
   where
     by : (o : Option Limits) → AreFew o → Some limits ≡ o → AreLimits limits
     by None few e = absurd (cc e)

@@ -43,15 +43,15 @@ pub Runs-append : (limits : Limits) (stay : Bool) (state : State) (first second 
 Runs-append limits stay state first second x y (ends s) q = q
 Runs-append limits stay state first second x y (passes s text texts outcomes passed p) q =
     passes s text (texts ++ second) (outcomes ++ y) passed (Runs-append limits stay s texts second outcomes y p q)
-Runs-append limits stay state first second x y (steps s found text said texts outcomes kept says finds p) q =
-    steps s found text said (texts ++ second) (outcomes ++ y) kept says finds (Runs-append limits stay (step limits found said).state texts second outcomes y p q)
+Runs-append limits stay state first second x y (steps s found text said texts outcomes spoken says finds p) q =
+    steps s found text said (texts ++ second) (outcomes ++ y) spoken says finds (Runs-append limits stay (step limits found said).state texts second outcomes y p q)
 
 -- how the outcome of a statement came about
 pub record SteppedFrom (limits : Limits) (stay : Bool) (state : State) (text : Bytes) (texts : List Bytes) (all : List Outcome) : Type 0 where
   pub found : State
   pub said : Said
   pub rest : List Outcome
-  pub kept : is_passed_over text ≡ false
+  pub spoken : is_passed_over text ≡ false
   pub says : Says text said
   pub finds : Finds stay state found
   pub runs : Runs limits stay (step limits found said).state texts rest
@@ -65,8 +65,8 @@ RunsBy limits stay state (text ∷ texts) all = ((is_passed_over text ≡ true) 
 pub runs_by : (limits : Limits) (stay : Bool) (state : State) (texts : List Bytes) (all : List Outcome) → Runs limits stay state texts all → RunsBy limits stay state texts all
 runs_by limits stay state texts all (ends s) = refl
 runs_by limits stay state texts all (passes s text more outcomes passed p) = inl (passed, p)
-runs_by limits stay state texts all (steps s found text said more outcomes kept says finds p) =
-    inr (record { found = found; said = said; rest = outcomes; kept = kept; says = says; finds = finds; runs = p; are = refl })
+runs_by limits stay state texts all (steps s found text said more outcomes spoken says finds p) =
+    inr (record { found = found; said = said; rest = outcomes; spoken = spoken; says = says; finds = finds; runs = p; are = refl })
 
 -- the outcomes of some first pieces are the first of all outcomes
 pub record GoesOn (limits : Limits) (state : State) (left : List Bytes) (x all : List Outcome) : Type 0 where
@@ -80,11 +80,11 @@ goes_on once limits state done left x all (ends s) q = record { rest = all; runs
 goes_on once limits state done left x all (passes s text texts outcomes passed p) q =
     elim (runs_by limits true s (text ∷ texts ++ left) all q) [
       | inl (also, r) ↦ goes_on once limits s texts left outcomes all p r
-      | inr f ↦ (let kept = f.kept in absurd (cc (passed, kept)))
+      | inr f ↦ (let spoken = f.spoken in absurd (cc (passed, spoken)))
     ]
-goes_on once limits state done left x all (steps s found text said texts outcomes kept says finds p) q =
+goes_on once limits state done left x all (steps s found text said texts outcomes spoken says finds p) q =
     elim (runs_by limits true s (text ∷ texts ++ left) all q) [
-      | inl (passed, r) ↦ absurd (cc (passed, kept))
+      | inl (passed, r) ↦ absurd (cc (passed, spoken))
       | inr f ↦
           let one : f.said ≡ said = one_said once text f.said said f.says says in
           let from : f.found ≡ found = f.finds ∙ sym finds in

@@ -14,17 +14,17 @@ use Rattle.star_engine.specs.declared.engine.Engine.{Engine}
 use Rattle.star_engine.specs.State.{State}
 use Rattle.star_engine.specs.Step.{Outcome, step, piece_asks_store}
 use Rattle.report_text.specs.Texts.{Bytes}
-use Rattle.blink_run.specs.Script.{Runs, ends, passes, steps, Begins, Asks, left_by, outputs_of}
+use Rattle.blink_run.specs.Script.{Runs, ends, passes, steps, Begins, Asks, NeverAsks, left_by, outputs_of}
 use Rattle.std.specs.Prelude.{Result, Ok, Err, IsErrAnd, IfErr}
-use Rattle.blink_run.specs.declared.stop.Stop.{Stop}
-use Rattle.blink_run.specs.declared.stop.Stop.TheVariants as stop
+use Rattle.blink_run.specs.declared.output.Stop.{Stop}
+use Rattle.blink_run.specs.declared.output.Stop.TheVariants as stop
 use Rattle.blink_run.specs.PiecesRun.{SinkView, GivesAll, Stands, IsStep, AreRun, AreAnswered, AreLeft, AreCut, AreAsking, AreStopped}
 use Rattle.blink_run.specs.StatementOutput.{IsPiece, IsAsking}
 use Rattle.blink_run.proofs.OutcomeLemmas.{Runs-append}
 
 -- nothing is given
 pub gives_nothing : (x : SinkView) → GivesAll x x []
-gives_nothing x = record { given = Appends-nil x.bytes; later = omega arith; sure = λ enough. (omega arith, refl) }
+gives_nothing x = record { given = Appends-nil x.bytes; quiet = refl; sure = λ enough. omega arith }
 
 -- bytes are given behind bytes
 pub GivesAll-trans : (a b c : SinkView) (xs ys : Bytes) → GivesAll a b xs → GivesAll b c ys → GivesAll a c (xs ++ ys)
@@ -32,13 +32,11 @@ GivesAll-trans a b c xs ys p q =
     let long = length-append xs ys in
     record {
       given = Appends-trans _ _ _ xs ys p.given q.given;
-      later = (let l = p.later in let m = q.later in omega arith);
+      quiet = q.quiet ∙ p.quiet;
       sure = λ (enough : length (xs ++ ys) ≤ a.room).
-          let first = p.sure (omega arith) in
-          let room = first.0 in
-          let second = q.sure (omega arith) in
-          let more = second.0 in
-          (omega arith, second.1 ∙ first.1);
+          let room = p.sure (omega arith) in
+          let more = q.sure (omega arith) in
+          omega arith;
     }
 
 -- what outcomes print, one behind the other
@@ -77,13 +75,13 @@ run_behind limits stay state first second a b c r q one two =
     }
 
 -- pieces are answered behind pieces
-pub answered_behind : {M : Type 0} (limits : Limits) (held : Option store.Files) (stay : Bool) (state : State) (first second : List Bytes) (a b c : SinkView) (r q : Bool) (between after : Engine M)
-    → (one : AreAnswered limits held stay state first a b r between) → AreAnswered limits held stay (left_by state one.run.outcomes) second b c q after
-    → AreAnswered limits held stay state (first ++ second) a c (r || q) after
-answered_behind {M} limits held stay state first second a b c r q between after one two =
+pub answered_behind : {M : Type 0} (limits : Limits) (told_files : Option store.Files) (stay : Bool) (state : State) (first second : List Bytes) (a b c : SinkView) (r q : Bool) (between after : Engine M)
+    → (one : AreAnswered limits told_files stay state first a b r between) → AreAnswered limits told_files stay (left_by state one.run.outcomes) second b c q after
+    → AreAnswered limits told_files stay state (first ++ second) a c (r || q) after
+answered_behind {M} limits told_files stay state first second a b c r q between after one two =
     record {
       run = run_behind limits stay state first second a b c r q one.run two.run;
-      stands = subst (λ (s : State). Stands {M = M} limits held s after) (sym (left_by-append state one.run.outcomes two.run.outcomes)) two.stands;
+      stands = subst (λ (s : State). Stands {M = M} limits told_files s after) (sym (left_by-append state one.run.outcomes two.run.outcomes)) two.stands;
     }
 
 -- some first pieces are left behind pieces
@@ -96,37 +94,65 @@ left_behind limits stay state first second more a b c r one two =
       given = rw (printed-append one.outcomes two.outcomes) (GivesAll-trans a b c _ _ one.given two.given);
     }
 
+-- a statement that asks the store, among more pieces
+pub asks_more : (limits : Limits) (stay : Bool) (state : State) (texts more : List Bytes) (outcomes : List Outcome)
+    → Asks limits stay state texts outcomes → Asks limits stay state (texts ++ more) outcomes
+asks_more limits stay state texts more outcomes q = record {
+  done = q.done;
+  text = q.text;
+  left = q.left ++ more;
+  said = q.said;
+  parts = ap (λ ts. ts ++ more) q.parts ∙ append_assoc q.done (q.text ∷ q.left) more;
+  runs = q.runs;
+  spoken = q.spoken;
+  says = q.says;
+  asks = q.asks;
+}
+
+-- behind pieces
+pub asks_behind : (limits : Limits) (stay : Bool) (state : State) (first second : List Bytes) (x y : List Outcome)
+    → Runs limits stay state first x → Asks limits stay (left_by state x) second y → Asks limits stay state (first ++ second) (x ++ y)
+asks_behind limits stay state first second x y runs q = record {
+  done = first ++ q.done;
+  text = q.text;
+  left = q.left;
+  said = q.said;
+  parts = ap (λ ts. first ++ ts) q.parts ∙ sym (append_assoc first q.done (q.text ∷ q.left));
+  runs = Runs-append limits stay state first q.done x y runs q.runs;
+  spoken = q.spoken;
+  says = q.says;
+  asks = ap (λ (s : State). piece_asks_store s.tables q.said) (left_by-append state x y) ∙ q.asks;
+}
+
+-- pieces of which none asks the store, before more and behind others
+pub never_before : (limits : Limits) (stay : Bool) (state : State) (texts more : List Bytes) → NeverAsks limits stay state (texts ++ more) → NeverAsks limits stay state texts
+never_before limits stay state texts more never outcomes asks = never outcomes (asks_more limits stay state texts more outcomes asks)
+
+pub never_behind : (limits : Limits) (stay : Bool) (state : State) (first second : List Bytes) (x : List Outcome)
+    → Runs limits stay state first x → NeverAsks limits stay state (first ++ second) → NeverAsks limits stay (left_by state x) second
+never_behind limits stay state first second x runs never y asks = never (x ++ y) (asks_behind limits stay state first second x y runs asks)
+
+-- a piece alone that does not ask the store
+pub never_first : (limits : Limits) (stay : Bool) (state : State) (text : Bytes) → NeverAsks limits stay state (text ∷ []) → ¬ (IsAsking state text)
+never_first limits stay state text never p =
+    never [] (record { done = []; text = text; left = []; said = p.said; parts = refl; runs = ends state; spoken = p.spoken; says = p.says; asks = p.asks })
+
 -- a statement that asks the store stands behind pieces
 pub asking_behind : (limits : Limits) (stay : Bool) (state : State) (first second more : List Bytes) (a b c : SinkView) (r : Bool)
     → (one : AreRun limits stay state first a b r) → AreAsking limits stay (left_by state one.outcomes) second b c → AreAsking limits stay state ((first ++ second) ++ more) a c
 asking_behind limits stay state first second more a b c r one two =
-    let q = two.asks in
     record {
       outcomes = one.outcomes ++ two.outcomes;
-      asks = record {
-        done = first ++ q.done;
-        text = q.text;
-        left = q.left ++ more;
-        said = q.said;
-        parts = split_parts first q.done (q.text ∷ q.left) more second q.parts;
-        runs = Runs-append limits stay state first q.done one.outcomes two.outcomes one.runs q.runs;
-        kept = q.kept;
-        says = q.says;
-        asks = ap (λ (s : State). piece_asks_store s.tables q.said) (left_by-append state one.outcomes two.outcomes) ∙ q.asks;
-      };
+      asks = asks_more limits stay state (first ++ second) more _ (asks_behind limits stay state first second one.outcomes two.outcomes one.runs two.asks);
       given = rw (printed-append one.outcomes two.outcomes) (GivesAll-trans a b c _ _ one.given two.given);
     }
-
--- a count that rose from a later value rose from an earlier one
-pub rose_before : (first later now : ℕ) → first ≤ later → Rose later now → Rose first now
-rose_before first later now le rose = grind arith
 
 -- the room is too small for what was given before and what is given now
 pub full_behind : (a b : SinkView) (xs : Bytes) (n : ℕ) → GivesAll a b xs → b.room < n → a.room < length xs + n
 full_behind a b xs n p full =
     elim (cases_lt a.room (length xs)) [
       | inl less ↦ omega arith
-      | inr enough ↦ (let first = p.sure enough in let room = first.0 in omega arith)
+      | inr enough ↦ (let room = p.sure enough in omega arith)
     ]
 
 -- no room is too small
@@ -149,8 +175,8 @@ cut_behind limits stay state first second more a b c r one two =
       part = two.part;
       within = two.within;
       given = rw (printed, append_assoc (concat (outputs_of x)) (concat (outputs_of y)) (take two.part two.next.printed)) (Appends-trans _ _ _ (concat (outputs_of x)) _ one.given.given two.given);
-      rose = rose_before a.faults b.faults c.faults one.given.later two.rose;
-      later = (let l = one.given.later in let m = two.later in omega arith);
+      rose = rw (← one.given.quiet) two.rose;
+      later = (let l = one.given.quiet in let m = two.later in omega arith);
       full = rw printed (omega arith);
     }
 
@@ -167,13 +193,13 @@ IfErr-from_is (Ok x) Q P is each = tt
 IfErr-from_is (Err e) Q P is each = each e is
 
 -- no piece is answered yet
-pub none_answered : {M : Type 0} (limits : Limits) (held : Option store.Files) (stay : Bool) (state : State) (x : SinkView) (engine : Engine M) → Stands limits held state engine → AreAnswered limits held stay state [] x x false engine
-none_answered limits held stay state x engine stands = record { run = record { outcomes = []; runs = ends state; given = gives_nothing x; any = refl }; stands = stands }
+pub none_answered : {M : Type 0} (limits : Limits) (told_files : Option store.Files) (stay : Bool) (state : State) (x : SinkView) (engine : Engine M) → Stands limits told_files state engine → AreAnswered limits told_files stay state [] x x false engine
+none_answered limits told_files stay state x engine stands = record { run = record { outcomes = []; runs = ends state; given = gives_nothing x; any = refl }; stands = stands }
 
 -- a piece that is passed over gives nothing
-pub passed_answered : {M : Type 0} (limits : Limits) (held : Option store.Files) (stay : Bool) (state : State) (text : Bytes) (x : SinkView) (engine : Engine M) → is_passed_over text ≡ true → Stands limits held state engine
-    → AreAnswered limits held stay state (text ∷ []) x x false engine
-passed_answered limits held stay state text x engine passed stands =
+pub passed_answered : {M : Type 0} (limits : Limits) (told_files : Option store.Files) (stay : Bool) (state : State) (text : Bytes) (x : SinkView) (engine : Engine M) → is_passed_over text ≡ true → Stands limits told_files state engine
+    → AreAnswered limits told_files stay state (text ∷ []) x x false engine
+passed_answered limits told_files stay state text x engine passed stands =
     record { run = record { outcomes = []; runs = passes state text [] [] passed (ends state); given = gives_nothing x; any = refl }; stands = stands }
 
 -- all pieces are left
@@ -184,25 +210,25 @@ all_left limits stay state texts x = record { outcomes = []; begins = record { d
 pub first_asks : (limits : Limits) (stay : Bool) (state : State) (text : Bytes) (x : SinkView) → IsAsking state text → AreAsking limits stay state (text ∷ []) x x
 first_asks limits stay state text x p = record {
   outcomes = [];
-  asks = record { done = []; text = text; left = []; said = p.said; parts = refl; runs = ends state; kept = p.kept; says = p.says; asks = p.asks };
+  asks = record { done = []; text = text; left = []; said = p.said; parts = refl; runs = ends state; spoken = p.spoken; says = p.says; asks = p.asks };
   given = gives_nothing x;
 }
 
 -- the outcome of a piece, alone
 pub step_runs : (limits : Limits) (stay : Bool) (state : State) (text line : Bytes) (refused : Bool) (next : State) (p : IsStep limits stay state text line refused next) → Runs limits stay state (text ∷ []) (step limits p.found p.said ∷ [])
-step_runs limits stay state text line refused next p = steps state p.found text p.said [] [] p.kept p.says p.finds (ends _)
+step_runs limits stay state text line refused next p = steps state p.found text p.said [] [] p.spoken p.says p.finds (ends _)
 
 -- a statement's line was given
-pub step_answered : {M : Type 0} (limits : Limits) (held : Option store.Files) (stay : Bool) (state : State) (text line : Bytes) (refused : Bool) (old new : SinkView) (engine : Engine M)
-    → IsPiece limits held stay state text line refused engine → GivesAll old new line → AreAnswered limits held stay state (text ∷ []) old new refused engine
-step_answered {M} limits held stay state text line refused old new engine p given = record {
+pub step_answered : {M : Type 0} (limits : Limits) (told_files : Option store.Files) (stay : Bool) (state : State) (text line : Bytes) (refused : Bool) (old new : SinkView) (engine : Engine M)
+    → IsPiece limits told_files stay state text line refused engine → GivesAll old new line → AreAnswered limits told_files stay state (text ∷ []) old new refused engine
+step_answered {M} limits told_files stay state text line refused old new engine p given = record {
   run = record {
     outcomes = step limits p.step.found p.step.said ∷ [];
     runs = step_runs limits stay state text line refused p.next p.step;
     given = rw (p.step.steps, append-nil line) given;
     any = rw p.step.steps (refused_once refused);
   };
-  stands = subst (λ (o : Outcome). Stands {M = M} limits held o.state engine) (sym p.step.steps) p.stands;
+  stands = subst (λ (o : Outcome). Stands {M = M} limits told_files o.state engine) (sym p.step.steps) p.stands;
 }
   where
     refused_once : (b : Bool) → b ≡ (b || false)
@@ -210,11 +236,11 @@ step_answered {M} limits held stay state text line refused old new engine p give
     refused_once false = refl
 
 -- a statement's line was cut
-pub step_cut : {M : Type 0} (limits : Limits) (held : Option store.Files) (stay : Bool) (state : State) (text line : Bytes) (refused : Bool) (old new : SinkView) (engine : Engine M)
-    → IsPiece limits held stay state text line refused engine
+pub step_cut : {M : Type 0} (limits : Limits) (told_files : Option store.Files) (stay : Bool) (state : State) (text line : Bytes) (refused : Bool) (old new : SinkView) (engine : Engine M)
+    → IsPiece limits told_files stay state text line refused engine
     → (k : ℕ) × (k < length line) × Appends old.bytes new.bytes (take k line) → Rose old.faults new.faults → old.faults ≤ new.faults → old.room < length line
     → AreCut limits stay state (text ∷ []) old new
-step_cut limits held stay state text line refused old new engine p part rose later full = record {
+step_cut limits told_files stay state text line refused old new engine p part rose later full = record {
   outcomes = [];
   next = step limits p.step.found p.step.said;
   begins = record { done = text ∷ []; left = []; parts = refl; runs = step_runs limits stay state text line refused p.next p.step };

@@ -1,11 +1,11 @@
--- The limits that words say.
+-- The limits that arguments say.
 use Rattle.std.proofs.Common.{◌≡◌, ◌≢◌, List, [], ◌∷◌, length, map, refl}
 use Rattle.std.specs.Prelude.{None}
 use Rattle.report_text.specs.Texts.{Bytes}
 use Rattle.blink_run.specs.Options.{limits_of}
 
--- words that are no pairs say none
-pub limits_of-none : {X : Type 0} (f : X → Bytes) (words : List X) → length words ≢ 0 → length words ≢ 2 → length words ≢ 4 → limits_of (map f words) ≡ None
+-- arguments that are no pairs say none
+pub limits_of-none : {X : Type 0} (f : X → Bytes) (args : List X) → length args ≢ 0 → length args ≢ 2 → length args ≢ 4 → limits_of (map f args) ≡ None
 limits_of-none f [] no0 no2 no4 = absurd (no0 refl)
 limits_of-none f (a ∷ []) no0 no2 no4 = refl
 limits_of-none f (a ∷ n ∷ []) no0 no2 no4 = absurd (no2 refl)

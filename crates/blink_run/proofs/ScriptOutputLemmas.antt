@@ -1,23 +1,29 @@
 -- What is given of a script, by how its pieces were answered.
-use Rattle.std.proofs.Common.{◌≡◌, ◌∙◌, ◌≤◌, Bool, true, false, List, [], ◌∷◌, ◌++◌, length, refl, sym, ap, subst, append-nil, arith, length-append}
-use Rattle.std.specs.Prelude.{if◌then◌else◌}
+use Rattle.std.proofs.Common.{◌≡◌, ◌≢◌, ◌∙◌, ◌≤◌, Bool, true, false, List, [], ◌∷◌, ◌++◌, length, refl, sym, ap, subst, append-nil, arith, length-append}
+use Rattle.std.specs.Prelude.{if◌then◌else◌, Option, Result, Ok, Err, IfOk, IfErr}
 use Rattle.std.specs.List.{concat}
 use Rattle.blink_base.specs.declared.limits.Limits.{Limits}
+use Rattle.blink_edge.specs.Files as store
 use Rattle.star_lex.specs.Pieces.{piece_texts}
 use Rattle.star_sql.specs.ParseResult.{SpelledOnce}
+use Rattle.star_engine.specs.declared.engine.Engine.{Engine}
 use Rattle.star_engine.specs.State.{Files, State}
 use Rattle.star_engine.specs.Step.{Outcome}
 use Rattle.report_text.specs.Texts.{Bytes}
-use Rattle.blink_run.specs.Script.{Runs, Begins, start, outputs_of}
-use Rattle.blink_run.specs.PiecesRun.{SinkView, AreRun, AreLeft, AreCut, AreAsking}
+use Rattle.blink_run.specs.Script.{Runs, ScriptRuns, Begins, start, outputs_of}
+use Rattle.blink_run.specs.PiecesRun.{SinkView, Stands, AreRun, AreLeft, AreCut, AreAsking, AreAnswered, AreStopped, end_of}
 use Rattle.blink_run.specs.Program.{to_run, told_script}
-use Rattle.blink_run.specs.Ends.{Shown, AllGiven, PartGiven, FirstGiven, AskedGiven}
+use Rattle.blink_run.specs.Ends.{StreamView, AllGiven, Gives, PartGiven, FirstGiven, AskedGiven}
+use Rattle.blink_run.specs.StatementOutput.{IsStoreFault}
+use Rattle.blink_run.specs.declared.output.Stop.{Stop}
+use Rattle.blink_run.specs.declared.output.Stop.TheVariants as stop
+use Rattle.blink_run.specs.declared.status.Status.{Status}
 use Rattle.blink_run.specs.declared.status.Status.TheVariants as status
 use Rattle.blink_run.proofs.PiecesRunLemmas.{printed-append}
 use Rattle.blink_run.proofs.OutcomeLemmas.{goes_on}
 
 -- what a sink shows
-abbrev pub view_by : SinkView → Shown
+abbrev pub view_by : SinkView → StreamView
 view_by x = record { bytes = x.bytes; faults = x.faults }
 
 -- all pieces were answered
@@ -52,26 +58,6 @@ length_begun once limits state texts x all p q =
     let long = ap length printed ∙ length-append (concat (outputs_of x)) (concat (outputs_of rest)) in
     omega arith
 
--- the count stayed where there was room for all that the pieces print
-pub left_sure : SpelledOnce → (limits : Limits) (stay : Bool) (state : State) (texts : List Bytes) (old new : SinkView) (all : List Outcome) → stay ≡ true
-    → AreLeft limits stay state texts old new → Runs limits stay state texts all → length (concat (outputs_of all)) ≤ old.room → new.faults ≡ old.faults
-left_sure once limits true state texts old new all e p q enough =
-    let shorter = length_begun once limits state texts p.outcomes all p.begins q in
-    (p.given.sure (omega arith)).1
-left_sure once limits false state texts old new all e p q enough = absurd (cc e)
-
--- pieces that were all answered were first answered
-pub run_left : (limits : Limits) (stay : Bool) (state : State) (texts : List Bytes) (old new : SinkView) (refused : Bool)
-    → AreRun limits stay state texts old new refused → AreLeft limits stay state texts old new
-run_left limits stay state texts old new refused p =
-    record { outcomes = p.outcomes; begins = record { done = texts; left = []; parts = sym (append-nil texts); runs = p.runs }; given = p.given }
-
--- so were pieces before one that asks the store
-pub asking_left : (limits : Limits) (stay : Bool) (state : State) (texts : List Bytes) (old new : SinkView)
-    → AreAsking limits stay state texts old new → AreLeft limits stay state texts old new
-asking_left limits stay state texts old new p =
-    record { outcomes = p.outcomes; begins = record { done = p.asks.done; left = p.asks.text ∷ p.asks.left; parts = p.asks.parts; runs = p.asks.runs }; given = p.given }
-
 -- there was no room where an output was cut
 pub cut_sure : SpelledOnce → (limits : Limits) (stay : Bool) (state : State) (texts : List Bytes) (old new : SinkView) (all : List Outcome) → stay ≡ true
     → AreCut limits stay state texts old new → Runs limits stay state texts all → length (concat (outputs_of all)) ≤ old.room → ⊥
@@ -83,3 +69,55 @@ cut_sure once limits true state texts old new all e p q enough =
     let full = p.full in
     omega arith
 cut_sure once limits false state texts old new all e p q enough = absurd (cc e)
+
+-- what a script gives, by how the run of its pieces ended
+pub record IsScriptEnd (limits : Limits) (stay : Bool) (files : Files) (script : Bytes) (old new : SinkView) (answer : Status) : Type 0 where
+  pub gives : Gives (to_run limits) stay files script (view_by old) (view_by new) answer
+  pub quiet : answer ≢ status.WriteFault → new.faults ≡ old.faults
+  pub later : old.faults ≤ new.faults
+  pub sure : stay ≡ true → (outcomes : List Outcome) → ScriptRuns limits stay files script outcomes → length (concat (outputs_of outcomes)) ≤ old.room → new.faults ≡ old.faults
+
+-- without a fault of the sink
+quiet_end : (limits : Limits) (stay : Bool) (files : Files) (script : Bytes) (old new : SinkView) (answer : Status)
+    → Gives (to_run limits) stay files script (view_by old) (view_by new) answer → new.faults ≡ old.faults → IsScriptEnd limits stay files script old new answer
+quiet_end limits stay files script old new answer gives same = record { gives = gives; quiet = λ _. same; later = omega arith; sure = λ _ _ _ _. same }
+
+module _ {M : Type 0} (once : SpelledOnce) (limits : Limits) (told_files : Option store.Files) (stay : Bool) (files : Files) (script : Bytes) (old new : SinkView) (first last : Engine M) (stands : Stands limits told_files (start files) first) where
+  pub script_end : (r : Result Bool Stop)
+      → IfOk r (λ refused. (l : Limits) (state : State) → Stands l told_files state first → AreAnswered l told_files stay state (piece_texts script) old new refused last)
+      → IfErr r (λ why. (l : Limits) (state : State) → Stands l told_files state first → AreStopped l stay state (piece_texts script) old new why)
+      → IsScriptEnd limits stay files script old new (end_of r)
+  script_end (Ok true) answered stopped =
+      let run = (answered limits (start files) stands).run in
+      quiet_end limits stay files script old new status.Refused (all_given limits stay files script old new true run) run.given.quiet
+  script_end (Ok false) answered stopped =
+      let run = (answered limits (start files) stands).run in
+      quiet_end limits stay files script old new status.Done (all_given limits stay files script old new false run) run.given.quiet
+  script_end (Err stop.Memory) answered stopped =
+      let p = stopped limits (start files) stands in
+      quiet_end limits stay files script old new status.Memory (first_given limits stay files script old new p) p.given.quiet
+  script_end (Err stop.Sink) answered stopped =
+      let p = stopped limits (start files) stands in
+      record {
+        gives = (p.rose, part_given limits stay files script old new p);
+        quiet = λ no. absurd (no refl);
+        later = p.later;
+        sure = λ told outcomes runs enough. absurd (cut_sure once limits stay (start files) (piece_texts script) old new outcomes told p runs enough);
+      }
+  script_end (Err stop.Store) answered stopped =
+      let p = stopped limits (start files) stands in
+      quiet_end limits stay files script old new status.StoreFault (asked_given limits stay files script old new p) p.given.quiet
+
+-- a script ends by a fault of the store where the run of its pieces did
+pub store_fault_end : (r : Result Bool Stop) → end_of r ≡ status.StoreFault → IsStoreFault r
+store_fault_end (Ok true) is = cc is
+store_fault_end (Ok false) is = cc is
+store_fault_end (Err stop.Memory) is = cc is
+store_fault_end (Err stop.Sink) is = cc is
+store_fault_end (Err stop.Store) is = tt
+
+pub store_fault_ends : (r : Result Bool Stop) → IsStoreFault r → end_of r ≡ status.StoreFault
+store_fault_ends (Ok refused) fault = absurd fault
+store_fault_ends (Err stop.Memory) fault = absurd fault
+store_fault_ends (Err stop.Sink) fault = absurd fault
+store_fault_ends (Err stop.Store) fault = refl

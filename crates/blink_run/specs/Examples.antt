@@ -16,9 +16,9 @@ use Rattle.blink_run.specs.Options.{standard_limits}
 use Rattle.blink_run.specs.Script.{ends, passes, steps}
 use Rattle.blink_run.specs.Program.{asked_by, to_run, to_count, nothing_known, count_told, Tells}
 
--- the words of a count, and words in no stated form
-abbrev pub WordsAsked : Type 0
-WordsAsked =
+-- the arguments of a count, and arguments in no stated form
+abbrev pub ArgumentsAsked : Type 0
+ArgumentsAsked =
     (asked_by (codes "range" ∷ codes "a" ∷ codes "-2" ∷ codes "005" ∷ []) ≡ to_count (codes "a") (negsuc 1) (pos 5))
     × (asked_by [] ≡ nothing_known)
     × (asked_by (codes "range" ∷ codes "a" ∷ codes "x" ∷ codes "2" ∷ []) ≡ nothing_known)
@@ -97,8 +97,8 @@ TextsRefused =
     Tells (to_run standard_limits) true no_files refused_script
     (record { printed = codes "refused: number too long\nrefused: syntax\nrefused: too deep\nrefused: unknown table t\nrefused: syntax\n"; refused = true })
 
-pub words_asked_lem : WordsAsked
-words_asked_lem = (refl, refl, refl, refl, refl, refl, refl, refl, refl, refl, refl, refl, refl, refl)
+pub arguments_asked_lem : ArgumentsAsked
+arguments_asked_lem = (refl, refl, refl, refl, refl, refl, refl, refl, refl, refl, refl, refl, refl, refl)
 
 pub bytes_told_lem : BytesTold
 unfolding digits next_record records_from strip_bom

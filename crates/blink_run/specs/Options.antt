@@ -8,7 +8,7 @@ use Rattle.blink_lists.specs.declared.limits.TheConstants.{MOST_ROWS}
 use Rattle.report_text.specs.Texts.{Bytes}
 use Rattle.blink_run.specs.declared.options.TheConstants.{MOST_OPTION_DIGITS}
 
--- how many rows a table may have, and how many blocks all tables, where the words don't say it
+-- how many rows a table may have, and how many blocks all tables, where the arguments don't say it
 abbrev pub standard_limits : Limits
 standard_limits = record { rows = MOST_ROWS; blocks = MOST_BLOCKS }
 
@@ -45,7 +45,7 @@ abbrev pub or_else : Option Limits → Option Limits → Option Limits
 or_else (Some limits) other = Some limits
 or_else None other = other
 
--- the limits that the words behind `run` say: each option at most once, in any order
+-- the limits that the arguments behind `run` say: each option at most once, in any order
 abbrev pub limits_of : List Bytes → Option Limits
 limits_of [] = Some standard_limits
 limits_of (a ∷ []) = None

@@ -1,4 +1,4 @@
--- What the program prints for the words of its command line and its input. Source: this project's own.
+-- What the program prints for the arguments and its input. Source: this project's own.
 use Rattle.std.specs.Prelude.{◌≡◌, ℕ, ℤ, Bool, true, false, List, [], ◌∷◌, codes, Option, Some, None, Result, Ok, Err, if◌then◌else◌}
 use Rattle.std.specs.List.{concat}
 use Rattle.std.specs.Str.{bytes_eq, str_to_ascii_lowercase}
@@ -15,7 +15,7 @@ use Rattle.blink_run.specs.Script.{ScriptRuns, outputs_of, is_any_refused}
 use Rattle.blink_run.specs.declared.status.Status.{Status}
 use Rattle.blink_run.specs.declared.status.Status.TheVariants as status
 
--- what the words ask for: a script under limits, the count of a column between two whole numbers, or nothing that is known
+-- what the arguments ask for: a script under limits, the count of a column between two whole numbers, or nothing that is known
 pub data Asked : Type 0 where
   to_run : Limits → Asked
   to_count : Bytes → ℤ → ℤ → Asked
@@ -32,20 +32,20 @@ count_asked column (Some low) (Some high) = to_count column low high
 count_asked column (Some low) None = nothing_known
 count_asked column None high = nothing_known
 
--- the words behind `range`: a column and two whole numbers
+-- the arguments behind `range`: a column and two whole numbers
 abbrev pub count_form : List Bytes → Asked
 count_form [] = nothing_known
 count_form (column ∷ []) = nothing_known
 count_form (column ∷ low ∷ []) = nothing_known
 count_form (column ∷ low ∷ high ∷ []) = count_asked column (whole_number low) (whole_number high)
-count_form (column ∷ low ∷ high ∷ more ∷ words) = nothing_known
+count_form (column ∷ low ∷ high ∷ more ∷ args) = nothing_known
 
--- what the words of the command line ask for
+-- what the arguments ask for
 abbrev pub asked_by : List Bytes → Asked
 asked_by [] = nothing_known
-asked_by (word ∷ words) =
-    if bytes_eq word (codes "run") then run_asked (limits_of words)
-    else if bytes_eq word (codes "range") then count_form words
+asked_by (verb ∷ args) =
+    if bytes_eq verb (codes "run") then run_asked (limits_of args)
+    else if bytes_eq verb (codes "range") then count_form args
     else nothing_known
 
 -- what a run tells: what it prints, and whether it refuses anything

@@ -1,8 +1,9 @@
 -- What a script does, statement by statement. Source: this project's own.
-use Rattle.std.specs.Prelude.{◌≡◌, Bool, true, false, List, [], ◌∷◌, ◌++◌, map}
+use Rattle.std.specs.Prelude.{◌≡◌, Bool, true, false, List, [], ◌∷◌, ◌++◌, map, All, Ok, Err}
 use Rattle.std.specs.List.{list_any}
 use Rattle.blink_base.specs.declared.limits.Limits.{Limits}
 use Rattle.star_lex.specs.Pieces.{piece_texts}
+use Rattle.star_sql.specs.declared.ast.Statement.TheVariants as statement
 use Rattle.star_sql.specs.PieceStatement.{Said, Says, is_passed_over}
 use Rattle.star_engine.specs.State.{Files, State}
 use Rattle.star_engine.specs.Step.{Outcome, step, piece_asks_store}
@@ -63,7 +64,7 @@ pub record Asks (limits : Limits) (stay : Bool) (state : State) (texts : List By
   pub said : Said
   pub parts : texts ≡ done ++ text ∷ left
   pub runs : Runs limits stay state done outcomes
-  pub kept : is_passed_over text ≡ false
+  pub spoken : is_passed_over text ≡ false
   pub says : Says text said
   pub asks : piece_asks_store (left_by state outcomes).tables said ≡ true
 
@@ -71,6 +72,27 @@ pub record Asks (limits : Limits) (stay : Bool) (state : State) (texts : List By
 abbrev pub ScriptAsks : Limits → Bool → Files → Bytes → List Outcome → Type 0
 ScriptAsks limits stay files script outcomes = Asks limits stay (start files) (piece_texts script) outcomes
 
+-- no statement of the pieces asks the store, whatever the statements before it find
+abbrev pub NeverAsks : Limits → Bool → State → List Bytes → Type 0
+NeverAsks limits stay state texts = (outcomes : List Outcome) → ¬ (Asks limits stay state texts outcomes)
+
+-- no statement of a script asks the store
+abbrev pub ScriptNeverAsks : Limits → Bool → Files → Bytes → Type 0
+ScriptNeverAsks limits stay files script = NeverAsks limits stay (start files) (piece_texts script)
+
 -- The law that a script over a store that tells its files has one list of outcomes.
 abbrev pub RunsOneWay : Type 0
 RunsOneWay = (limits : Limits) (files : Files) (script : Bytes) (x y : List Outcome) → ScriptRuns limits true files script x → ScriptRuns limits true files script y → x ≡ y
+
+-- whether a piece is a statement that names a file: LOAD, APPEND, EXPORT or IMPORT
+abbrev pub names_file : Said → Bool
+names_file (Ok (statement.Load name file)) = true
+names_file (Ok (statement.Append name file)) = true
+names_file (Ok (statement.Export name file)) = true
+names_file (Ok (statement.Import name file)) = true
+names_file _ = false
+
+-- The law that pieces of which none names a file never ask the store.
+abbrev pub FilesAreNamed : Type 0
+FilesAreNamed = (limits : Limits) (stay : Bool) (state : State) (texts : List Bytes)
+    → All (λ text. (said : Said) → Says text said → names_file said ≡ false) texts → NeverAsks limits stay state texts

@@ -1,5 +1,5 @@
 // The count of a column between two bounds.
-ghost use Rattle.std.specs.Prelude.{◌≡◌, ◌≤◌, Bool, length, true, false, IfOk};
+ghost use Rattle.std.specs.Prelude.{◌≡◌, ◌≢◌, ◌≤◌, Bool, length, true, false, IfOk};
 ghost use Rattle.std.specs.Str.{str_to_ascii_lowercase};
 ghost use Rattle.blink_base.specs.declared.refusal.Refusal.TheVariants.{UnknownColumn};
 ghost use Rattle.blink_base.specs.declared.limits.TheConstants.{LONGEST_INPUT};
@@ -8,12 +8,11 @@ ghost use Rattle.star_engine.specs.State.{Files};
 ghost use Rattle.blink_run.specs.Program.{count_told};
 ghost use Rattle.blink_run.specs.Ends.{Gives, stream_view};
 ghost use Rattle.blink_run.specs.Request.{asked_of};
-ghost use Rattle.blink_run.specs.declared.words.Request.TheVariants.{Count};
+ghost use Rattle.blink_run.specs.declared.args.Request.TheVariants.{Count};
 
 use crate::Status;
-use crate::lines::count_line;
-use crate::told::Told;
-use crate::words::Bounds;
+use crate::args::Bounds;
+use crate::output::{Output, count_line};
 use blink_base::{List, Refusal, Word};
 use blink_edge::{Failed, Sink, write_all};
 use blink_loader::{RangeFault, range_count};
@@ -31,25 +30,25 @@ fn unknown_column_line(alloc: Global, column: &str) -> Result<List<u8>, AllocErr
 
 // What the count of a column between two bounds tells of an input.
 #[tactic(auto, using(crate::proofs::CountOutputLemmas::told_count_by_answer))]
-fn tell_count(alloc: Global, bounds: Bounds<'_>, input: &[u8]) -> Result<Told, AllocError>
+fn tell_count(alloc: Global, bounds: Bounds<'_>, input: &[u8]) -> Result<Output, AllocError>
     requires { length input.now ≤ LONGEST_INPUT }
     ensures line { IfOk result (λ told. told.line ≡ (count_told bounds.entry.column.now bounds.entry.low bounds.entry.high input.now).printed) }
     ensures refused { IfOk result (λ told. told.refused ≡ (count_told bounds.entry.column.now bounds.entry.low bounds.entry.high input.now).refused) }
 {
     match range_count(alloc, input, bounds.column, bounds.low, bounds.high) {
-        Ok(count) => Ok(Told {
+        Ok(count) => Ok(Output {
             line: count_line(alloc, count)?,
             refused: false,
         }),
-        Err(RangeFault::UnknownColumn) => Ok(Told {
+        Err(RangeFault::UnknownColumn) => Ok(Output {
             line: unknown_column_line(alloc, bounds.column)?,
             refused: true,
         }),
-        Err(RangeFault::Arity { at }) => Ok(Told {
+        Err(RangeFault::Arity { at }) => Ok(Output {
             line: refusal_text(alloc, &Refusal::Arity { at })?,
             refused: true,
         }),
-        Err(RangeFault::BadValue { at, field }) => Ok(Told {
+        Err(RangeFault::BadValue { at, field }) => Ok(Output {
             line: refusal_text(alloc, &Refusal::BadValue { at, field })?,
             refused: true,
         }),
@@ -67,6 +66,7 @@ pub(crate) fn answer_count<W: Sink>(
     requires { length input.now ≤ LONGEST_INPUT }
     ensures ends { (stay : Bool) (files : Files) → Gives (asked_of (Count bounds.entry)) stay files input.now
         (stream_view W.given W.faults output.old) (stream_view W.given W.faults output.new) result }
+    ensures quiet { result ≢ Status.WriteFault → W.faults output.new ≡ W.faults output.old }
     ensures later { W.faults output.old ≤ W.faults output.new }
     ensures sure { length (count_told bounds.entry.column.now bounds.entry.low bounds.entry.high input.now).printed ≤ W.sure_room output.old
         → W.faults output.new ≡ W.faults output.old }

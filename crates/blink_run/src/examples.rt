@@ -1,11 +1,11 @@
 //! Worked runs, as facts that compute.
 
-ghost use Rattle.blink_run.specs.Examples.{BytesTold, NothingSaid, ScriptAnswered, TablesTold, TextsRefused, WordsAsked};
+ghost use Rattle.blink_run.specs.Examples.{BytesTold, NothingSaid, ScriptAnswered, TablesTold, TextsRefused, ArgumentsAsked};
 
-/// The words of the command line.
-#[tactic(auto, using(crate::specs::Examples::words_asked_lem))]
+/// The arguments.
+#[tactic(auto, using(crate::specs::Examples::arguments_asked_lem))]
 pub fn words_asked()
-    ensures { WordsAsked }
+    ensures { ArgumentsAsked }
 {}
 
 /// What the program prints for an input, and its status.

@@ -1,6 +1,6 @@
 //! Laws on scripts.
 
-ghost use Rattle.blink_run.specs.Script.{RunsOneWay};
+ghost use Rattle.blink_run.specs.Script.{FilesAreNamed, RunsOneWay};
 
 use star_sql::one_spelling;
 
@@ -10,3 +10,8 @@ pub fn one_way_to_run()
 {
     one_spelling();
 }
+
+/// A script of which no statement is LOAD, APPEND, EXPORT or IMPORT never asks the store.
+pub fn files_are_named()
+    ensures { FilesAreNamed }
+{}

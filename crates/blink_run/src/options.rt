@@ -87,11 +87,11 @@ fn both_options(first: &str, number: &str, second: &str, other: &str) -> Option<
     }
 }
 
-// The limits that the words behind `run` say: each option at most once, in any order.
-pub(crate) fn limits_of(words: &[String]) -> Option<Limits>
-    ensures { result ≡ limits_of (map string_bytes words.now) }
+// The limits that the arguments behind `run` say: each option at most once, in any order.
+pub(crate) fn limits_of(args: &[String]) -> Option<Limits>
+    ensures { result ≡ limits_of (map string_bytes args.now) }
 {
-    match words {
+    match args {
         [] => limits(Some(MOST_ROWS), Some(MOST_BLOCKS)),
         [word, number] => one_option(word.as_str(), number.as_str()),
         [first, number, second, other] => both_options(

@@ -1,29 +1,74 @@
 // The pieces of a script, one behind the other.
-ghost use Rattle.std.specs.Prelude.{◌≡◌, ◌≤◌, [], ◌∷◌, length, map, is_some, Err, IfOk, IfErr, All};
+ghost use Rattle.std.specs.Prelude.{◌≡◌, ◌≤◌, [], ◌∷◌, length, map, is_some, false, Ok, IfOk, IfErr, IsTrue, All};
 ghost use Rattle.blink_base.specs.declared.limits.TheConstants.{LONGEST_INPUT};
 ghost use Rattle.blink_base.specs.declared.limits.Limits.{Limits};
-ghost use Rattle.blink_edge.specs.Causes.{Rose};
+ghost use Rattle.star_sql.specs.WellFormed.{is_well_formed};
+ghost use Rattle.star_sql.specs.declared.ast.Statement.{Statement as Stated};
 ghost use Rattle.star_engine.specs.State.{State};
-ghost use Rattle.star_engine.specs.EngineRepr.{HasTables};
-ghost use Rattle.blink_run.specs.Ends.{IsAsked};
+ghost use Rattle.star_engine.specs.Step.{piece_asks_store};
+ghost use Rattle.star_engine.specs.EngineRepr.{HasTables, IsEngineOf};
+ghost use Rattle.blink_run.specs.Ends.{AreFiles, IsAsked};
+ghost use Rattle.blink_run.specs.Script.{NeverAsks};
+ghost use Rattle.blink_run.specs.StatementOutput.{HasFewTokens, IsAsking, IsSaidFrom, IsStoreFault, IsPieceAnswer};
 ghost use Rattle.blink_run.specs.PiecesRun.{AreAnswered, AreStopped, Stands, sink_view};
 ghost use Rattle.blink_run.specs.PieceSpans.{IsWithin, text_at};
 
-use crate::answers::answer_by;
-use crate::stop::Stop;
+use crate::output::{Output, Stop, refused};
+use crate::piece_text::{Said, said_by};
+use crate::statements::answer_statement;
 use blink_edge::{Failed, Sink, Store, write_all};
 use star_engine::Engine;
 use star_lex::Place;
 use std::alloc::Global;
 use word_pool::{Ledger, Steps};
 
-// The bytes of a piece.
-fn piece_text(script: &[u8], place: Place) -> &[u8]
-    requires { IsWithin script.now place }
-    ensures text { result.now ≡ text_at script.now place }
-    ensures within { length result.now ≤ length script.now }
+// The line of what a piece says.
+fn answer_said<M: Ledger, S: Store>(
+    alloc: Global,
+    engine: &mut Engine<M>,
+    store: &mut S,
+    said: &Said,
+    decodes: &mut Steps<M>,
+) -> Result<Output, Stop>
+    requires sound { HasTables engine.old }
+    requires formed { (s : Stated) → said.now ≡ Ok s → IsTrue (is_well_formed s) }
+    requires few { (s : Stated) → said.now ≡ Ok s → HasFewTokens s }
+    ensures reply { (state : State) → IsEngineOf state.tables engine.old → AreFiles (S.files store.old) state.files
+        → IsSaidFrom engine.old.limits (S.files store.old) (is_some (S.files store.old)) state said.now result engine.new }
+    ensures sound { HasTables engine.new }
+    ensures limits { engine.new.limits ≡ engine.old.limits }
+    ensures store { IsAsked S.files S.faults S.never_fails (IsStoreFault result) store.old store.new }
+    ensures unasked { (state : State) → IsEngineOf state.tables engine.old → piece_asks_store state.tables said.now ≡ false → store.new ≡ store.old }
 {
-    &script[place.start as usize..place.end as usize]
+    match said {
+        Ok(statement) => answer_statement(alloc, engine, store, statement, decodes),
+        Err(why) => refused(alloc, why),
+    }
+}
+
+// The line that a piece prints, where it isn't passed over.
+fn answer_by<M: Ledger, S: Store>(
+    alloc: Global,
+    engine: &mut Engine<M>,
+    store: &mut S,
+    text: &[u8],
+    decodes: &mut Steps<M>,
+) -> Result<Option<Output>, Stop>
+    requires short { length text.now ≤ LONGEST_INPUT }
+    requires sound { HasTables engine.old }
+    ensures answer { (limits : Limits) (state : State) → Stands limits (S.files store.old) state engine.old
+        → IsPieceAnswer limits (S.files store.old) (is_some (S.files store.old)) state text.now result engine.new }
+    ensures sound { HasTables engine.new }
+    ensures store { IsAsked S.files S.faults S.never_fails (IsStoreFault result) store.old store.new }
+    ensures unasked { (state : State) → IsEngineOf state.tables engine.old → ¬ (IsAsking state text.now) → store.new ≡ store.old }
+{
+    match said_by(alloc, text)? {
+        None => Ok(None),
+        Some(said) => match answer_said(alloc, engine, store, &said, decodes) {
+            Ok(told) => Ok(Some(told)),
+            Err(why) => Err(why),
+        },
+    }
 }
 
 // Answers one piece, and says whether it was refused.
@@ -44,8 +89,9 @@ fn answer_piece<M: Ledger, W: Sink, S: Store>(
         → AreStopped limits (is_some (S.files store.old)) state (text.now ∷ [])
         (sink_view W.given W.faults W.sure_room output.old) (sink_view W.given W.faults W.sure_room output.new) why) }
     ensures sound { HasTables engine.new }
-    ensures store { IsAsked S.files S.faults S.never_fails store.old store.new }
-    ensures rose { result ≡ Err Stop.Store → Rose (S.faults store.old) (S.faults store.new) }
+    ensures store { IsAsked S.files S.faults S.never_fails (IsStoreFault result) store.old store.new }
+    ensures unasked { (limits : Limits) (state : State) → Stands limits (S.files store.old) state engine.old
+        → NeverAsks limits (is_some (S.files store.old)) state (text.now ∷ []) → store.new ≡ store.old }
 {
     let told = match answer_by(alloc, engine, store, text, decodes) {
         Ok(Some(told)) => told,
@@ -56,6 +102,15 @@ fn answer_piece<M: Ledger, W: Sink, S: Store>(
         Ok(()) => Ok(told.refused),
         Err(Failed) => Err(Stop::Sink),
     }
+}
+
+// The bytes of a piece.
+fn text_at(script: &[u8], place: Place) -> &[u8]
+    requires { IsWithin script.now place }
+    ensures text { result.now ≡ text_at script.now place }
+    ensures within { length result.now ≤ length script.now }
+{
+    &script[place.start as usize..place.end as usize]
 }
 
 // Answers pieces, one behind the other, and says whether one was refused.
@@ -77,12 +132,13 @@ pub(crate) fn answer_pieces<M: Ledger, W: Sink, S: Store>(
     ensures stopped { IfErr result (λ why. (limits : Limits) (state : State) → Stands limits (S.files store.old) state engine.old
         → AreStopped limits (is_some (S.files store.old)) state (map (text_at script.now) places.now)
         (sink_view W.given W.faults W.sure_room output.old) (sink_view W.given W.faults W.sure_room output.new) why) }
-    ensures store { IsAsked S.files S.faults S.never_fails store.old store.new }
-    ensures rose { result ≡ Err Stop.Store → Rose (S.faults store.old) (S.faults store.new) }
+    ensures store { IsAsked S.files S.faults S.never_fails (IsStoreFault result) store.old store.new }
+    ensures unasked { (limits : Limits) (state : State) → Stands limits (S.files store.old) state engine.old
+        → NeverAsks limits (is_some (S.files store.old)) state (map (text_at script.now) places.now) → store.new ≡ store.old }
 {
     let mut refused = false;
     for place in places {
-        let text = piece_text(script, *place);
+        let text = text_at(script, *place);
         refused |= answer_piece(alloc, engine, store, text, output, decodes)?;
     }
     Ok(refused)

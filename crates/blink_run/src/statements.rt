@@ -1,21 +1,18 @@
 // What a statement does, and what it prints.
-ghost use Rattle.std.specs.Prelude.{◌≡◌, ◌≢◌, true, Some, IsTrue, OnErr, IfOk, IfErr, Err, is_some};
-ghost use Rattle.blink_edge.specs.Causes.{Rose};
+ghost use Rattle.std.specs.Prelude.{◌≡◌, ◌≢◌, true, false, Some, IsTrue, OnErr, IfOk, IfErr, is_some};
 ghost use Rattle.star_sql.specs.WellFormed.{is_well_formed};
 ghost use Rattle.star_sql.specs.declared.ast.Statement.TheVariants as statement;
 ghost use Rattle.star_engine.specs.LoadedRows.{loaded};
-ghost use Rattle.star_engine.specs.State.{State, Tables};
+ghost use Rattle.star_engine.specs.State.{State, Tables, has_table};
 ghost use Rattle.star_engine.specs.Changes.{added};
 ghost use Rattle.star_engine.specs.EngineRepr.{HasTables, IsAddition, IsEngineOf};
 ghost use Rattle.blink_run.specs.Ends.{AreFiles, IsAsked};
 ghost use Rattle.report_text.specs.Texts.{refusal_bytes};
-ghost use Rattle.star_engine.specs.Step.{fetched};
+ghost use Rattle.star_engine.specs.Step.{asks_store, fetched};
 ghost use Rattle.blink_base.specs.declared.limits.TheConstants.{LONGEST_CSV};
-ghost use Rattle.blink_run.specs.StatementOutput.{IsLine, IsReply, IsReplyFrom, IsFetched, bytes_in, loads};
+ghost use Rattle.blink_run.specs.StatementOutput.{HasFewTokens, IsLine, IsReply, IsReplyFrom, IsFetched, IsStoreFault, bytes_in, loads};
 
-use crate::printed::{addition, done, refused, refused_by};
-use crate::stop::Stop;
-use crate::told::Told;
+use crate::output::{Output, Stop, addition, done, refused, refused_by};
 use blink_base::{LONGEST_CSV, List, Refusal, Word};
 use blink_edge::{Found, Store, StoreError};
 use report_text::{created_text, dropped_text, layout_text, reorganized_text};
@@ -30,7 +27,7 @@ fn create<M: Ledger>(
     engine: &mut Engine<M>,
     name: &Word,
     columns: &List<ColumnDef>,
-) -> Result<Told, Stop>
+) -> Result<Output, Stop>
     requires sound { HasTables engine.old }
     requires formed { IsTrue (is_well_formed (statement.Create name.now columns.now)) }
     ensures reply { (state : State) → IsEngineOf state.tables engine.old → IsReply engine.old.limits state (statement.Create name.now columns.now) result engine.new }
@@ -44,7 +41,7 @@ fn create<M: Ledger>(
 }
 
 // Answers DROP TABLE.
-fn drop_table<M: Ledger>(alloc: Global, engine: &mut Engine<M>, name: &Word) -> Result<Told, Stop>
+fn drop_table<M: Ledger>(alloc: Global, engine: &mut Engine<M>, name: &Word) -> Result<Output, Stop>
     requires { HasTables engine.old }
     ensures reply { (state : State) → IsEngineOf state.tables engine.old → IsReply engine.old.limits state (statement.Drop name.now) result engine.new }
     ensures sound { HasTables engine.new }
@@ -63,7 +60,7 @@ fn insert<M: Ledger>(
     name: &Word,
     rows: &List<List<Literal>>,
     decodes: &mut Steps<M>,
-) -> Result<Told, Stop>
+) -> Result<Output, Stop>
     requires sound { HasTables engine.old }
     requires formed { IsTrue (is_well_formed (statement.Insert name.now rows.now)) }
     ensures reply { (state : State) → IsEngineOf state.tables engine.old → IsReply engine.old.limits state (statement.Insert name.now rows.now) result engine.new }
@@ -80,7 +77,7 @@ fn reorganize<M: Ledger>(
     engine: &mut Engine<M>,
     name: &Word,
     decodes: &mut Steps<M>,
-) -> Result<Told, Stop>
+) -> Result<Output, Stop>
     requires { HasTables engine.old }
     ensures reply { (state : State) → IsEngineOf state.tables engine.old → IsReply engine.old.limits state (statement.Reorganize name.now) result engine.new }
     ensures sound { HasTables engine.new }
@@ -93,7 +90,7 @@ fn reorganize<M: Ledger>(
 }
 
 // Answers DESCRIBE.
-fn describe<M: Ledger>(alloc: Global, engine: &Engine<M>, name: &Word) -> Result<Told, Stop>
+fn describe<M: Ledger>(alloc: Global, engine: &Engine<M>, name: &Word) -> Result<Output, Stop>
     ensures { (state : State) → IsEngineOf state.tables engine.now → IsReply engine.now.limits state (statement.Describe name.now) result engine.now }
 {
     match engine.describe(alloc, name) {
@@ -144,8 +141,7 @@ fn fetch_csv<S: Store>(
     ensures got { IfOk result (λ got. (state : State) → AreFiles (S.files store.old) state.files
         → IsFetched (S.files store.old) (is_some (S.files store.old)) state name.now got) }
     ensures stop { IfErr result (λ why. why ≢ Stop.Sink) }
-    ensures store { IsAsked S.files S.faults S.never_fails store.old store.new }
-    ensures rose { result ≡ Err Stop.Store → Rose (S.faults store.old) (S.faults store.new) }
+    ensures store { IsAsked S.files S.faults S.never_fails (IsStoreFault result) store.old store.new }
 {
     let mut bytes = Vec::new(alloc);
     match store.fetch(name, LONGEST_CSV, &mut bytes) {
@@ -158,7 +154,7 @@ fn fetch_csv<S: Store>(
 }
 
 // The refusal of a name without a table.
-fn unknown_table(alloc: Global, name: &Word) -> Result<Told, Stop>
+fn unknown_table(alloc: Global, name: &Word) -> Result<Output, Stop>
     ensures { IsLine (refusal_bytes (Refusal.UnknownTable name.now)) true result }
 {
     let why = Refusal::UnknownTable(name.copy(alloc)?);
@@ -174,14 +170,14 @@ fn add_file<M: Ledger, S: Store>(
     file: &Word,
     anew: bool,
     decodes: &mut Steps<M>,
-) -> Result<Told, Stop>
+) -> Result<Output, Stop>
     requires { HasTables engine.old }
     ensures reply { (state : State) → IsEngineOf state.tables engine.old → AreFiles (S.files store.old) state.files
         → IsReplyFrom engine.old.limits (S.files store.old) (is_some (S.files store.old)) state (loads anew name.now file.now) result engine.new }
     ensures sound { HasTables engine.new }
     ensures limits { engine.new.limits ≡ engine.old.limits }
-    ensures store { IsAsked S.files S.faults S.never_fails store.old store.new }
-    ensures rose { result ≡ Err Stop.Store → Rose (S.faults store.old) (S.faults store.new) }
+    ensures store { IsAsked S.files S.faults S.never_fails (IsStoreFault result) store.old store.new }
+    ensures unasked { (state : State) → IsEngineOf state.tables engine.old → has_table state.tables name.now ≡ false → store.new ≡ store.old }
 {
     if engine.find(name.as_str()).is_none() {
         return unknown_table(alloc, name);
@@ -202,15 +198,16 @@ pub(crate) fn answer_statement<M: Ledger, S: Store>(
     store: &mut S,
     statement: &Statement,
     decodes: &mut Steps<M>,
-) -> Result<Told, Stop>
+) -> Result<Output, Stop>
     requires sound { HasTables engine.old }
     requires formed { IsTrue (is_well_formed statement.now) }
+    requires few { HasFewTokens statement.now }
     ensures reply { (state : State) → IsEngineOf state.tables engine.old → AreFiles (S.files store.old) state.files
         → IsReplyFrom engine.old.limits (S.files store.old) (is_some (S.files store.old)) state statement.now result engine.new }
     ensures sound { HasTables engine.new }
     ensures limits { engine.new.limits ≡ engine.old.limits }
-    ensures store { IsAsked S.files S.faults S.never_fails store.old store.new }
-    ensures rose { result ≡ Err Stop.Store → Rose (S.faults store.old) (S.faults store.new) }
+    ensures store { IsAsked S.files S.faults S.never_fails (IsStoreFault result) store.old store.new }
+    ensures unasked { (state : State) → IsEngineOf state.tables engine.old → asks_store state.tables statement.now ≡ false → store.new ≡ store.old }
 {
     match statement {
         Statement::Create { name, columns } => create(alloc, engine, name, columns),

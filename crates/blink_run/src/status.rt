@@ -8,7 +8,7 @@ pub enum Status {
     Done,
     /// The run came to its end, and something was refused.
     Refused,
-    /// The words are in no stated form, and the usage line was given whole.
+    /// The arguments are in no stated form, and the usage line was given whole.
     Usage,
     /// The source failed. Nothing was printed.
     ReadFault,

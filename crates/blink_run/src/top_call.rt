@@ -1,29 +1,28 @@
 // The program.
-ghost use Rattle.std.specs.Prelude.{◌≡◌, ◌≤◌, ◌<◌, ℕ, Bool, List, Some, is_some, length, map, string_bytes};
+ghost use Rattle.std.specs.Prelude.{◌≡◌, ◌≢◌, ◌≤◌, ◌<◌, ℕ, Bool, List, Some, is_some, length, map, string_bytes};
 ghost use Rattle.report_text.specs.Texts.{usage_bytes};
-ghost use Rattle.blink_edge.specs.Causes.{Rose};
 ghost use Rattle.blink_base.specs.declared.limits.TheConstants.{LONGEST_INPUT};
 ghost use Rattle.star_engine.specs.State.{Files};
 ghost use Rattle.blink_run.specs.Program.{asked_by, nothing_known, Told, Tells};
-ghost use Rattle.blink_run.specs.Ends.{Ends, IsComplete, Gives, AreFiles, AreKnown, AsksNothing, IsAsked, outside, stream_view, store_view};
+ghost use Rattle.blink_run.specs.Ends.{Ends, IsComplete, EndsAtFault, Gives, AreFiles, AreKnown, AsksNothing, IsAsked, NeverAsked, outside, stream_view, store_view};
 ghost use Rattle.blink_run.specs.Request.{asked_of, IsAllowed};
 
 use crate::Status;
+use crate::args::Request;
 use crate::count::answer_count;
-use crate::lines::USAGE;
+use crate::output::USAGE;
 use crate::script::answer_script;
-use crate::words::Request;
 use blink_base::LONGEST_INPUT;
 use blink_edge::{Failed, ReadError, Sink, Source, Store, Taken, read_all, write_all};
 use std::alloc::Global;
 use std::marker::Brand;
-use std::sync::ledger;
-use std::sync::ledger::Blank;
-use word_pool::{Ledger, Steps, Tally};
+use std::sync::ledger::{Blank, Ledger};
+use word_pool::{Steps, Tally};
 
 // Prints how the program is used. It takes no memory.
 fn answer_usage<W: Sink>(output: &mut W) -> Status
     ensures ends { (stay : Bool) (files : Files) (input : List ℕ) → Gives nothing_known stay files input (stream_view W.given W.faults output.old) (stream_view W.given W.faults output.new) result }
+    ensures quiet { result ≢ Status.WriteFault → W.faults output.new ≡ W.faults output.old }
     ensures later { W.faults output.old ≤ W.faults output.new }
     ensures sure { length usage_bytes ≤ W.sure_room output.old → W.faults output.new ≡ W.faults output.old }
 {
@@ -33,81 +32,37 @@ fn answer_usage<W: Sink>(output: &mut W) -> Status
     }
 }
 
-// Answers what is asked, over an input.
-fn answer<M: Ledger, W: Sink, S: Store>(
-    alloc: Global,
-    request: Request<'_>,
-    input: &[u8],
-    output: &mut W,
-    store: &mut S,
-    decodes: &mut Steps<M>,
-) -> Status
-    requires short { length input.now ≤ LONGEST_INPUT }
-    requires allowed { IsAllowed request }
-    ensures ends { (files : Files) → AreFiles (S.files store.old) files → Gives (asked_of request.entry) (is_some (S.files store.old)) files input.now
-        (stream_view W.given W.faults output.old) (stream_view W.given W.faults output.new) result }
-    ensures later { W.faults output.old ≤ W.faults output.new }
-    ensures sure { (files : Files) (told : Told) → AreKnown (asked_of request.entry) (S.files store.old) files
-        → Tells (asked_of request.entry) (is_some (S.files store.old)) files input.now told
-        → length told.printed ≤ W.sure_room output.old → W.faults output.new ≡ W.faults output.old }
-    ensures store { IsAsked S.files S.faults S.never_fails store.old store.new }
-    ensures kept { AsksNothing (asked_of request.entry) → store.new ≡ store.old }
-    ensures rose { result ≡ Status.StoreFault → Rose (S.faults store.old) (S.faults store.new) }
-{
-    match request {
-        Request::Run(limits) => answer_script(alloc, limits, input, output, store, decodes),
-        Request::Count(bounds) => answer_count(alloc, bounds, input, output),
-        Request::Unknown => answer_usage(output),
-    }
-}
-
-// Runs the program, and counts the codes that are decoded on the ledger of a blank.
-fn counted<N: ledger::Ledger, R: Source, W: Sink, S: Store>(
+// Answers what is asked, over an input. The codes that are decoded are counted on the ledger of a blank.
+fn answer<N: Ledger, W: Sink, S: Store>(
     alloc: Global,
     blank: Blank,
-    words: &[String],
-    input: &mut R,
+    request: Request<'_>,
+    input: &[u8],
     output: &mut W,
     store: &mut S,
 ) -> Status
     requires name { blank.name ≡ N.name }
     requires parts { blank.parts ≡ N.parts }
     requires some { 0 < blank.parts }
-    ensures ends { Ends (asked_by (map string_bytes words.now))
-        (outside (stream_view R.left R.faults input.old) (stream_view W.given W.faults output.old) (store_view S.files S.faults store.old))
-        (outside (stream_view R.left R.faults input.new) (stream_view W.given W.faults output.new) (store_view S.files S.faults store.new)) result }
-    ensures complete { IsComplete (asked_by (map string_bytes words.now))
-        (outside (stream_view R.left R.faults input.old) (stream_view W.given W.faults output.old) (store_view S.files S.faults store.old))
-        (outside (stream_view R.left R.faults input.new) (stream_view W.given W.faults output.new) (store_view S.files S.faults store.new)) result }
-    ensures store { IsAsked S.files S.faults S.never_fails store.old store.new }
-    ensures store_kept { AsksNothing (asked_by (map string_bytes words.now)) → store.new ≡ store.old }
-    ensures source_kept { asked_by (map string_bytes words.now) ≡ nothing_known → input.new ≡ input.old }
-    ensures source_later { R.faults input.old ≤ R.faults input.new }
-    ensures sink_later { W.faults output.old ≤ W.faults output.new }
-    ensures source_sure { R.never_fails input.old → R.faults input.new ≡ R.faults input.old }
-    ensures sink_sure { (bytes : List ℕ) (files : Files) (told : Told) → R.left input.old ≡ Some bytes
-        → AreKnown (asked_by (map string_bytes words.now)) (S.files store.old) files
-        → Tells (asked_by (map string_bytes words.now)) (is_some (S.files store.old)) files bytes told
+    requires short { length input.now ≤ LONGEST_INPUT }
+    requires allowed { IsAllowed request }
+    ensures ends { (files : Files) → AreFiles (S.files store.old) files → Gives (asked_of request.entry) (is_some (S.files store.old)) files input.now
+        (stream_view W.given W.faults output.old) (stream_view W.given W.faults output.new) result }
+    ensures quiet { result ≢ Status.WriteFault → W.faults output.new ≡ W.faults output.old }
+    ensures later { W.faults output.old ≤ W.faults output.new }
+    ensures sure { (files : Files) (told : Told) → AreKnown (asked_of request.entry) (S.files store.old) files
+        → Tells (asked_of request.entry) (is_some (S.files store.old)) files input.now told
         → length told.printed ≤ W.sure_room output.old → W.faults output.new ≡ W.faults output.old }
+    ensures store { IsAsked S.files S.faults S.never_fails (result ≡ Status.StoreFault) store.old store.new }
+    ensures kept { AsksNothing (asked_of request.entry) → store.new ≡ store.old }
+    ensures unasked { (files : Files) → AreFiles (S.files store.old) files
+        → NeverAsked (asked_of request.entry) (is_some (S.files store.old)) files input.now → store.new ≡ store.old }
 {
     let mut decodes: Steps<Tally<N>> = Steps::new(Tally::new(blank));
-    let request = Request::of_words(words);
-    if let Request::Unknown = request {
-        return answer(alloc, request, &[], output, store, &mut decodes);
-    }
-    let mut bytes = Vec::new(alloc);
-    match read_all(input, LONGEST_INPUT, &mut bytes) {
-        Ok(Taken::Whole) => answer(
-            alloc,
-            request,
-            bytes.as_slice(),
-            output,
-            store,
-            &mut decodes,
-        ),
-        Ok(Taken::Long) => Status::Long,
-        Err(ReadError::Failed) => Status::ReadFault,
-        Err(ReadError::Memory) => Status::Memory,
+    match request {
+        Request::Run(limits) => answer_script(alloc, limits, input, output, store, &mut decodes),
+        Request::Count(bounds) => answer_count(alloc, bounds, input, output),
+        Request::Unknown => answer_usage(output),
     }
 }
 
@@ -123,9 +78,9 @@ fn counted<N: ledger::Ledger, R: Source, W: Sink, S: Store>(
 /// the usage line; they read nothing and take no memory.
 ///
 /// How a run ends, what was read and what was printed is said for each status by `Ends`: a fault is answered only where
-/// that object's count of faults rose or stands at its last value, and want of memory may come at any point. What is
-/// printed is what the statements print over the files that the store tells; where it tells none, each statement goes by
-/// the files that it finds. Source: this project's own.
+/// that object's count of faults rose or stands at its last value, the first fault ends the run, and want of memory may
+/// come at any point. What is printed is what the statements print over the files that the store tells; where it tells
+/// none, each statement goes by the files that it finds. Source: this project's own.
 pub fn run<R: Source, W: Sink, S: Store>(
     alloc: Global,
     words: &[String],
@@ -140,10 +95,17 @@ pub fn run<R: Source, W: Sink, S: Store>(
         (outside (stream_view R.left R.faults input.old) (stream_view W.given W.faults output.old) (store_view S.files S.faults store.old))
         (outside (stream_view R.left R.faults input.new) (stream_view W.given W.faults output.new) (store_view S.files S.faults store.new)) result }
 
-    // The store keeps the files that it tells, and for words that ask for no script it is as it was; for words in no stated
-    // form so is the source.
-    ensures store { IsAsked S.files S.faults S.never_fails store.old store.new }
+    // The first fault ends the run: no count of faults rises but that of the fault that is answered.
+    ensures first_fault { EndsAtFault
+        (outside (stream_view R.left R.faults input.old) (stream_view W.given W.faults output.old) (store_view S.files S.faults store.old))
+        (outside (stream_view R.left R.faults input.new) (stream_view W.given W.faults output.new) (store_view S.files S.faults store.new)) result }
+
+    // The store keeps the files that it tells, and is as it was where no statement asks it and for words that ask for no
+    // script; for words in no stated form so is the source.
+    ensures store { IsAsked S.files S.faults S.never_fails (result ≡ Status.StoreFault) store.old store.new }
     ensures store_kept { AsksNothing (asked_by (map string_bytes words.now)) → store.new ≡ store.old }
+    ensures unasked { (bytes : List ℕ) (files : Files) → R.left input.old ≡ Some bytes → AreFiles (S.files store.old) files
+        → NeverAsked (asked_by (map string_bytes words.now)) (is_some (S.files store.old)) files bytes → store.new ≡ store.old }
     ensures source_kept { asked_by (map string_bytes words.now) ≡ nothing_known → input.new ≡ input.old }
 
     // No count of faults falls, and none rises where no call fails and there is room for all that is told.
@@ -155,5 +117,22 @@ pub fn run<R: Source, W: Sink, S: Store>(
         → Tells (asked_by (map string_bytes words.now)) (is_some (S.files store.old)) files bytes told
         → length told.printed ≤ W.sure_room output.old → W.faults output.new ≡ W.faults output.old }
 {
-    counted::<Brand, R, W, S>(alloc, Blank::new(1), words, input, output, store)
+    let request = Request::of_args(words);
+    if let Request::Unknown = request {
+        return answer_usage(output);
+    }
+    let mut bytes = Vec::new(alloc);
+    match read_all(input, LONGEST_INPUT, &mut bytes) {
+        Ok(Taken::Whole) => answer::<Brand, W, S>(
+            alloc,
+            Blank::new(1),
+            request,
+            bytes.as_slice(),
+            output,
+            store,
+        ),
+        Ok(Taken::Long) => Status::Long,
+        Err(ReadError::Failed) => Status::ReadFault,
+        Err(ReadError::Memory) => Status::Memory,
+    }
 }

@@ -4,6 +4,8 @@
 #[cfg(test)]
 mod base;
 #[cfg(test)]
+mod edge;
+#[cfg(test)]
 mod lex;
 #[cfg(test)]
 mod loader;

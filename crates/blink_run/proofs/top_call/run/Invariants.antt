@@ -1,4 +1,4 @@
 use Rattle.blink_run.proofs.top_call.run.Given as goal
 
-abbrev pub ghosts-counted : goal.ghosts-counted
-ghosts-counted g a = record { name = a.blank.name; parts = a.blank.parts }
+abbrev pub ghosts-answer : goal.ghosts-answer
+ghosts-answer g a = record { name = a.blank.name; parts = a.blank.parts }
