@@ -104,12 +104,7 @@ fn values_of(
 }
 
 // The row of the record of this number.
-fn row_of(
-    alloc: Global,
-    schema: &Schema,
-    at: u64,
-    fields: &ByteRecord,
-) -> Result<Row, LoadFault>
+fn row_of(alloc: Global, schema: &Schema, at: u64, fields: &ByteRecord) -> Result<Row, LoadFault>
     requires { length schema.now.columns < 2 ^ 32 }
     ensures row { result ≢ Err LoadFault.Memory → result ≡ row_of schema.now.columns at (fields_of fields.now) }
     ensures fit { IfOk result (λ row. IsTrue (fits schema.now row)) }

@@ -22,7 +22,9 @@ use Rattle.blink_run.specs.Script.{Finds}
 use Rattle.blink_run.specs.StatementOutput.{IsLine, IsRefusal, IsAdditionLine, IsStepped, IsReply, IsReplied, IsReplyFrom, IsFetched, IsStoreFault, IsStoreStop, loads, bytes_in}
 use Rattle.blink_run.specs.declared.output.Stop.{Stop}
 use Rattle.blink_run.specs.declared.output.Stop.TheVariants as stop
+use Rattle.star_engine.specs.declared.growth.Growth.{Growth}
 use Rattle.blink_run.specs.declared.output.Output.{Output}
+use Rattle.star_engine.specs.declared.growth.Growth.TheVariants.{Anew, Standing}
 
 module _ {M : Type 0} where
   -- a line of a step
@@ -104,27 +106,27 @@ finds_tables true state found is = ap (λ (x : State). x.tables) is
 finds_tables false state found is = is
 
 -- LOAD and APPEND add the rows of a file
-pub loads_step : (limits : Limits) (state : State) (anew : Bool) (name file : List ℕ) → statement_step limits state (loads anew name file) ≡ add_file limits anew state name file
-loads_step limits state true name file = refl
-loads_step limits state false name file = refl
+pub loads_step : (limits : Limits) (state : State) (growth : Growth) (name file : List ℕ) → statement_step limits state (loads growth name file) ≡ add_file limits growth state name file
+loads_step limits state Anew name file = refl
+loads_step limits state Standing name file = refl
 
 -- into a table that isn't there
-pub unknown_file : (limits : Limits) (state : State) (anew : Bool) (name file : List ℕ) → find_table state.tables name ≡ None
-    → statement_step limits state (loads anew name file) ≡ refuse state (refusal.UnknownTable name)
-unknown_file limits state anew name file none =
-    loads_step limits state anew name file ∙ ap (λ (o : Option AcceptedTable). addition state (add_found limits anew state.tables name (batch_of (fetched LONGEST_CSV (state.files file))) o)) none
+pub unknown_file : (limits : Limits) (state : State) (growth : Growth) (name file : List ℕ) → find_table state.tables name ≡ None
+    → statement_step limits state (loads growth name file) ≡ refuse state (refusal.UnknownTable name)
+unknown_file limits state growth name file none =
+    loads_step limits state growth name file ∙ ap (λ (o : Option AcceptedTable). addition state (add_found limits growth state.tables name (batch_of (fetched LONGEST_CSV (state.files file))) o)) none
 
 -- from a file that gives no bytes
-pub refused_file : (limits : Limits) (state : State) (anew : Bool) (name file : List ℕ) (accepted : AcceptedTable) (why : Refusal) → find_table state.tables name ≡ Some accepted → fetched LONGEST_CSV (state.files file) ≡ Err why
-    → statement_step limits state (loads anew name file) ≡ refuse state why
-refused_file limits state anew name file accepted why there got =
-    loads_step limits state anew name file ∙ (λ i. addition state (add_found limits anew state.tables name (batch_of (got i)) (there i)))
+pub refused_file : (limits : Limits) (state : State) (growth : Growth) (name file : List ℕ) (accepted : AcceptedTable) (why : Refusal) → find_table state.tables name ≡ Some accepted → fetched LONGEST_CSV (state.files file) ≡ Err why
+    → statement_step limits state (loads growth name file) ≡ refuse state why
+refused_file limits state growth name file accepted why there got =
+    loads_step limits state growth name file ∙ (λ i. addition state (add_found limits growth state.tables name (batch_of (got i)) (there i)))
 
 -- from the bytes of a file
-pub file_rows : (limits : Limits) (state : State) (anew : Bool) (name file bytes : List ℕ) → fetched LONGEST_CSV (state.files file) ≡ Ok bytes
-    → statement_step limits state (loads anew name file) ≡ addition state (added limits anew state.tables name (loaded bytes))
-file_rows limits state anew name file bytes got =
-    loads_step limits state anew name file ∙ ap (λ (r : Result Bytes Refusal). addition state (added limits anew state.tables name (batch_of r))) got
+pub file_rows : (limits : Limits) (state : State) (growth : Growth) (name file bytes : List ℕ) → fetched LONGEST_CSV (state.files file) ≡ Ok bytes
+    → statement_step limits state (loads growth name file) ≡ addition state (added limits growth state.tables name (loaded bytes))
+file_rows limits state growth name file bytes got =
+    loads_step limits state growth name file ∙ ap (λ (r : Result Bytes Refusal). addition state (added limits growth state.tables name (batch_of r))) got
 
 -- a call that asks no store never answers a fault of it
 pub no_store_fault : {M : Type 0} (limits : Limits) (state : State) (s : Statement) (result : Result Output Stop) (engine : Engine M) → IsReply limits state s result engine → ¬ (IsStoreFault result)

@@ -22,6 +22,8 @@ use Rattle.blink_run.specs.PiecesRun.{IsStep, Stands}
 use Rattle.blink_run.specs.declared.output.Stop.{Stop}
 use Rattle.blink_run.specs.declared.output.Stop.TheVariants as stop
 use Rattle.blink_run.specs.declared.output.Output.{Output}
+use Rattle.star_engine.specs.declared.growth.Growth.{Growth}
+use Rattle.star_engine.specs.declared.growth.Growth.TheVariants.{Anew, Standing}
 
 -- a line, and whether it refuses; else memory was wanting
 abbrev pub IsLine : Bytes → Bool → Result Output Stop → Type 0
@@ -81,9 +83,9 @@ IsReplyFrom limits told_files stay state s (Err stop.Sink) engine = ⊥
 IsReplyFrom limits told_files stay state s (Err stop.Store) engine = asks_store state.tables s ≡ true
 
 -- LOAD, or else APPEND
-abbrev pub loads : Bool → List ℕ → List ℕ → Statement
-loads true name file = statement.Load name file
-loads false name file = statement.Append name file
+abbrev pub loads : Growth → List ℕ → List ℕ → Statement
+loads Anew name file = statement.Load name file
+loads Standing name file = statement.Append name file
 
 -- the bytes of a file, or why there are none
 abbrev pub bytes_in : Result (Vec ℕ Global) Refusal → Result Bytes Refusal

@@ -16,7 +16,7 @@ use crate::output::{Output, Stop, addition, done, refused, refused_by};
 use blink_base::{LONGEST_CSV, List, Refusal, Word};
 use blink_edge::{Found, Store, StoreError};
 use report_text::{created_text, dropped_text, layout_text, reorganized_text};
-use star_engine::{Engine, EngineError};
+use star_engine::{Engine, EngineError, Growth};
 use star_sql::{ColumnDef, Literal, Statement};
 use std::alloc::Global;
 use word_pool::{Ledger, Steps};
@@ -105,19 +105,18 @@ fn add_bytes<M: Ledger>(
     engine: &mut Engine<M>,
     name: &Word,
     bytes: &[u8],
-    anew: bool,
+    growth: Growth,
     decodes: &mut Steps<M>,
 ) -> Result<u64, EngineError>
     requires { HasTables engine.old }
-    ensures step { (tables : Tables) → IsEngineOf tables engine.old → IsAddition result (added engine.old.limits anew tables name.now (loaded bytes.now)) engine.new }
+    ensures step { (tables : Tables) → IsEngineOf tables engine.old → IsAddition result (added engine.old.limits growth tables name.now (loaded bytes.now)) engine.new }
     ensures sound { HasTables engine.new }
     ensures kept { OnErr result (engine.new ≡ engine.old) }
     ensures limits { engine.new.limits ≡ engine.old.limits }
 {
-    if anew {
-        engine.load(alloc, name, bytes, decodes)
-    } else {
-        engine.append(alloc, name, bytes, decodes)
+    match growth {
+        Growth::Anew => engine.load(alloc, name, bytes, decodes),
+        Growth::Standing => engine.append(alloc, name, bytes, decodes),
     }
 }
 
@@ -168,12 +167,12 @@ fn add_file<M: Ledger, S: Store>(
     store: &mut S,
     name: &Word,
     file: &Word,
-    anew: bool,
+    growth: Growth,
     decodes: &mut Steps<M>,
 ) -> Result<Output, Stop>
     requires { HasTables engine.old }
     ensures reply { (state : State) → IsEngineOf state.tables engine.old → AreFiles (S.files store.old) state.files
-        → IsReplyFrom engine.old.limits (S.files store.old) (is_some (S.files store.old)) state (loads anew name.now file.now) result engine.new }
+        → IsReplyFrom engine.old.limits (S.files store.old) (is_some (S.files store.old)) state (loads growth name.now file.now) result engine.new }
     ensures sound { HasTables engine.new }
     ensures limits { engine.new.limits ≡ engine.old.limits }
     ensures store { IsAsked S.files S.faults S.never_fails (IsStoreFault result) store.old store.new }
@@ -184,7 +183,7 @@ fn add_file<M: Ledger, S: Store>(
     }
     match fetch_csv(alloc, store, file.as_str())? {
         Ok(bytes) => {
-            let added = add_bytes(alloc, engine, name, bytes.as_slice(), anew, decodes);
+            let added = add_bytes(alloc, engine, name, bytes.as_slice(), growth, decodes);
             addition(alloc, &added)
         }
         Err(why) => refused(alloc, &why),
@@ -213,10 +212,10 @@ pub(crate) fn answer_statement<M: Ledger, S: Store>(
         Statement::Create { name, columns } => create(alloc, engine, name, columns),
         Statement::Drop { name } => drop_table(alloc, engine, name),
         Statement::Load { name, file } => {
-            add_file(alloc, engine, store, name, file, true, decodes)
+            add_file(alloc, engine, store, name, file, Growth::Anew, decodes)
         }
         Statement::Append { name, file } => {
-            add_file(alloc, engine, store, name, file, false, decodes)
+            add_file(alloc, engine, store, name, file, Growth::Standing, decodes)
         }
         Statement::Insert { name, rows } => insert(alloc, engine, name, rows, decodes),
         Statement::Reorganize { name } => reorganize(alloc, engine, name, decodes),

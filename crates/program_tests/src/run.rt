@@ -524,7 +524,11 @@ fn there_are_64_tables_at_most(rt: HostRuntime) -> Result<(), Fail> {
     printed.push_str(
         "refused: too many tables\nrefused: table exists t7\ndropped t7\ncreated u\n",
     )?;
-    let streams = Streams { piece: 64, room: 4096, ..CALM };
+    let streams = Streams {
+        piece: 64,
+        room: 4096,
+        ..CALM
+    };
     let mut store = Shelf::new(alloc, Vec::new(alloc));
     let input = script.as_bytes().to_vec(alloc)?;
     let (ended, output) = run_end(alloc, "run", input, streams, &mut store)?;
@@ -534,12 +538,18 @@ fn there_are_64_tables_at_most(rt: HostRuntime) -> Result<(), Fail> {
 }
 
 // The store is asked by the third and the fourth statement alone.
-const ASKING: &str = "CREATE TABLE t (a INT); LOAD INTO u FROM 'l.csv'; LOAD INTO t FROM 'l.csv'; APPEND INTO t FROM 'm.csv'; DROP TABLE t";
+const ASKING: &str =
+    "CREATE TABLE t (a INT); LOAD INTO u FROM 'l.csv'; LOAD INTO t FROM 'l.csv'; APPEND INTO t FROM 'm.csv'; DROP TABLE t";
 
 // The store's call that fails, the sink's, the status, and what is printed. A statement that doesn't ask the store counts
 // as no call of it.
 const STORE_FAULTS: [(u64, u64, Status, &str); 5] = [
-    (1, 0, Status::StoreFault, "created t\nrefused: unknown table u\n"),
+    (
+        1,
+        0,
+        Status::StoreFault,
+        "created t\nrefused: unknown table u\n",
+    ),
     (
         2,
         0,
@@ -553,14 +563,24 @@ const STORE_FAULTS: [(u64, u64, Status, &str); 5] = [
         "created t\nrefused: unknown table u\nadded 2\nadded 1\ndropped t\n",
     ),
     (1, 2, Status::WriteFault, "created t\n"),
-    (2, 3, Status::WriteFault, "created t\nrefused: unknown table u\n"),
+    (
+        2,
+        3,
+        Status::WriteFault,
+        "created t\nrefused: unknown table u\n",
+    ),
 ];
 
 #[test]
 fn a_fault_of_the_store_ends_a_run(rt: HostRuntime) -> Result<(), Fail> {
     let alloc = rt.alloc();
     for (store_fails, sink_fails, status, printed) in STORE_FAULTS {
-        let streams = Streams { piece: 64, room: 4096, sink_fails, ..CALM };
+        let streams = Streams {
+            piece: 64,
+            room: 4096,
+            sink_fails,
+            ..CALM
+        };
         let row = ("run", ASKING, LINES, status, printed);
         expect_row(&rt, alloc, &row, streams, store_fails)?;
     }
@@ -581,9 +601,25 @@ const FAULTS: [(&str, &str, u64, usize, u64, Status, &str); 10] = [
     (COUNT, NUMBERS, 0, 9, 1, Status::WriteFault, ""),
     (COUNT, NUMBERS, 0, 2, 2, Status::Done, "2\n"),
     ("run", DROPS, 2, 99, 0, Status::ReadFault, ""),
-    ("run", DROPS, 0, 40, 0, Status::WriteFault, "refused: unknown table t\n"),
+    (
+        "run",
+        DROPS,
+        0,
+        40,
+        0,
+        Status::WriteFault,
+        "refused: unknown table t\n",
+    ),
     ("run", DROPS, 0, 99, 1, Status::WriteFault, ""),
-    ("run", DROPS, 0, 99, 2, Status::WriteFault, "refused: unknown table t\n"),
+    (
+        "run",
+        DROPS,
+        0,
+        99,
+        2,
+        Status::WriteFault,
+        "refused: unknown table t\n",
+    ),
     (
         "run",
         DROPS,
@@ -608,8 +644,19 @@ const FAULTS: [(&str, &str, u64, usize, u64, Status, &str); 10] = [
 fn faults_end_a_run(rt: HostRuntime) -> Result<(), Fail> {
     let alloc = rt.alloc();
     for (args, input, source_fails, room, sink_fails, status, printed) in FAULTS {
-        let streams = Streams { piece: 4, source_fails, room, sink_fails };
-        expect_row(&rt, alloc, &(args, input, NO_FILES, status, printed), streams, 0)?;
+        let streams = Streams {
+            piece: 4,
+            source_fails,
+            room,
+            sink_fails,
+        };
+        expect_row(
+            &rt,
+            alloc,
+            &(args, input, NO_FILES, status, printed),
+            streams,
+            0,
+        )?;
     }
     Ok(())
 }
@@ -635,7 +682,11 @@ fn an_input_past_the_limit_is_long(rt: HostRuntime) -> Result<(), Fail> {
     let alloc = rt.alloc();
     let mut store = Shelf::new(alloc, Vec::new(alloc));
     let input = vec![in alloc; b' '; 67_108_865]?;
-    let streams = Streams { piece: 1_000_000, room: 100, ..CALM };
+    let streams = Streams {
+        piece: 1_000_000,
+        room: 100,
+        ..CALM
+    };
     let (ended, output) = run_end(alloc, COUNT, input, streams, &mut store)?;
     assert_eq!(rt; ended, Status::Long);
     assert_eq!(rt; output.len(), 0);

@@ -20,9 +20,9 @@ returns-in-Ok-clause-reply g c state of are =
     let P : Tables → Type 0 = λ ts. IsEngineOf ts c.args.engine.now in
     let here : IsEngineOf found.tables c.args.engine.now = subst P (sym (finds_tables (is_some told_files) state found got.finds)) of in
     let step = rw c.as_slice.ensures.value at (c.add_bytes-added.ensures.step found.tables here) in
-    reply_found limits told_files (is_some told_files) state found (loads c.args.anew name file) c.addition.result c.add_bytes-added.new.engine
-    (reply_addition limits found (loads c.args.anew name file) (added limits c.args.anew found.tables name (loaded bytes)) c.add_bytes-added.result c.addition.result c.args.engine.now c.add_bytes-added.new.engine
-    (file_rows limits found c.args.anew name file bytes got.bytes) c.addition.ensures step c.add_bytes-added.ensures.kept here)
+    reply_found limits told_files (is_some told_files) state found (loads c.args.growth name file) c.addition.result c.add_bytes-added.new.engine
+    (reply_addition limits found (loads c.args.growth name file) (added limits c.args.growth found.tables name (loaded bytes)) c.add_bytes-added.result c.addition.result c.args.engine.now c.add_bytes-added.new.engine
+    (file_rows limits found c.args.growth name file bytes got.bytes) c.addition.ensures step c.add_bytes-added.ensures.kept here)
     got.finds got.files
 
 pub returns-in-Err-clause-reply : goal.returns-in-Err-clause-reply
@@ -39,9 +39,9 @@ returns-in-Err-clause-reply g c state of are =
     let looked = rw c.as_str.ensures at (c.find.ensures.held state.tables of) in
     let table = there (λ x. x.now) table_of c.find.result state.tables name c.if-is_none.ensures looked in
     let is = ap (λ (ts : Tables). find_table ts name) same ∙ table.is in
-    reply_found limits told_files (is_some told_files) state found (loads c.args.anew name file) c.refused.result c.args.engine.now
-    (reply_line limits found (loads c.args.anew name file) found.tables (refusal_bytes c.in-Err.why) true c.refused.result c.args.engine.now c.refused.ensures
-    (refused_file limits found c.args.anew name file table.accepted c.in-Err.why is got.bytes) here)
+    reply_found limits told_files (is_some told_files) state found (loads c.args.growth name file) c.refused.result c.args.engine.now
+    (reply_line limits found (loads c.args.growth name file) found.tables (refusal_bytes c.in-Err.why) true c.refused.result c.args.engine.now c.refused.ensures
+    (refused_file limits found c.args.growth name file table.accepted c.in-Err.why is got.bytes) here)
     got.finds got.files
 
 pub returns-in_err-bytes-clause-unasked : goal.returns-in_err-bytes-clause-unasked
