@@ -12,7 +12,7 @@ use Rattle.blink_lists.specs.Lists.{rises}
 use Rattle.blink_lists.proofs.OrderLemmas.{less_is}
 use Rattle.cell_layout.specs.declared.cell.Cell.{Cell}
 use Rattle.cell_layout.specs.Layout.{cell_cmp}
-use Rattle.cell_layout.specs.CellIndex.{keys_of_cells, key_at, IsCellPlace}
+use Rattle.cell_layout.specs.CellIndex.{keys_of_cells, key_at, IsCellIndex}
 use Rattle.cell_layout.specs.InsertRow.{Above, Rising}
 use Rattle.cell_layout.proofs.InsertRowLemmas.{turned, Above-below}
 
@@ -58,7 +58,7 @@ module _ (cells : List Cell) where
 
   -- what a binary search among cells in order finds
   pub cell_place : (classes : List ℕ) (r : Result ℕ ℕ) → rises cell_cmp (keys_of_cells cells) ≡ true → IsSearchInRange r (length cells)
-      → IsBinarySearchResult (λ (cell : Cell). cell_cmp cell.classes classes) cells r → IsCellPlace cells classes r
+      → IsBinarySearchResult (λ (cell : Cell). cell_cmp cell.classes classes) cells r → IsCellIndex cells classes r
   cell_place classes (Ok i) up within found = record { within = within; here = sym (key-here i empty_cell within) ∙ exact_bytes (get_or cells i empty_cell).classes classes (found empty_cell) }
   cell_place classes (Err i) up within found =
       let point = found (searchable classes up) in

@@ -24,8 +24,8 @@ pub record IsMissing (cells : List Cell) (classes : List ℕ) (at : ℕ) : Type 
   pub before : (k : ℕ) → k < at → cell_cmp (key_at cells k) classes ≡ Less
   pub behind : (k : ℕ) → at ≤ k → k < length cells → cell_cmp (key_at cells k) classes ≡ Greater
 
-abbrev pub IsCellPlace : List Cell → List ℕ → Result ℕ ℕ → Type 0
-IsCellPlace cells classes r = MatchResult r (IsFound cells classes) (IsMissing cells classes)
+abbrev pub IsCellIndex : List Cell → List ℕ → Result ℕ ℕ → Type 0
+IsCellIndex cells classes r = MatchResult r (IsFound cells classes) (IsMissing cells classes)
 
 -- each column has one more code behind its others
 pub record HasPushed (old new : List (List ℕ × ℕ)) (codes : List ℕ) : Type 0 where

@@ -6,7 +6,7 @@ ghost use Rattle.blink_lists.specs.Lists.{rises};
 ghost use Rattle.cell_layout.specs.Layout.{cell_cmp};
 ghost use Rattle.blink_lists.specs.declared.limits.TheConstants.{MOST_ROWS, MOST_COLUMNS};
 ghost use Rattle.cell_layout.specs.CellRepr.{IsCellRepr, most_image_rows};
-ghost use Rattle.cell_layout.specs.CellIndex.{AreWithin, keys_of_cells, IsCellPlace};
+ghost use Rattle.cell_layout.specs.CellIndex.{AreWithin, keys_of_cells, IsCellIndex};
 ghost use Rattle.cell_layout.specs.InsertRowRepr.{IsPushed, IsPut, rows_in_all};
 ghost use Rattle.cell_layout.specs.RowPartition.{ArePlaced, HasRoomBehind};
 ghost use Rattle.order_codes.specs.Dictionary.{Classes};
@@ -114,7 +114,7 @@ fn push_at(cells: &mut Roomy<Cell>, at: usize, codes: &[u32]) -> Result<(), Allo
 // The place of the cell of these class numbers, else where it would stand.
 fn find_cell(cells: &[Cell], classes: &[u32]) -> Result<usize, usize>
     requires { IsTrue (rises cell_cmp (keys_of_cells cells.now)) }
-    ensures { IsCellPlace cells.now classes.now result }
+    ensures { IsCellIndex cells.now classes.now result }
 {
     cells.binary_search_by(|cell| cell.classes.as_slice().cmp(classes))
 }

@@ -14,7 +14,7 @@ use crate::duplicate_keys::keys_apart;
 use crate::image::append::exceed;
 use crate::laws::rows_laid_out_anew_are_kept;
 use crate::{Image, LayoutError};
-use blink_base::{List, Row, Schema};
+use blink_base::{Copied, List, Row, Schema};
 use column_classes::dictionaries;
 use std::alloc::{AllocError, Global};
 use word_pool::{Ledger, Steps};
@@ -84,21 +84,11 @@ impl<M: Ledger> Image<M> {
         let dicts = dictionaries(alloc, held, batch, schema.columns.len())?;
         let PlacedRows { cells, rest } = place_rows(alloc, dicts.as_slice(), held, batch)?;
         Ok(Image {
-            schema: copy_of(alloc, schema)?,
+            schema: schema.copied(alloc)?,
             dicts,
             cells,
             rest,
             rows: (held.len() + batch.len()) as u64,
         })
     }
-}
-
-// An equal schema.
-fn copy_of(alloc: Global, schema: &Schema) -> Result<Schema, AllocError>
-    ensures { IfOk result (λ copy. copy ≡ schema.now) }
-{
-    Ok(Schema {
-        columns: schema.columns.copy(alloc)?,
-        key: schema.key,
-    })
 }
