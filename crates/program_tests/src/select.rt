@@ -1,9 +1,9 @@
 // SELECT as its tokens say it.
 use crate::sql::{shown, tokens_of};
-use blink_base::Word;
+use blink_base::{Op, Word};
 use star_sql::{
-    ColumnName, Cond, Expr, Item, Literal, OrderKey, Primary, Select, Statement, TestWords, What,
-    parse,
+    ColumnName, Cond, Expr, Item, Literal, OrderKey, Primary, Select, Statement, TestWords, Way,
+    What, parse,
 };
 use std::alloc::{AllocError, Global};
 use std::test::Fail;
@@ -111,83 +111,113 @@ EXPLAIN EXPLAIN SELECT a FROM t
 SELECT DISTINCT a FROM t
 ";
 
-fn push_column(line: &mut String, column: &ColumnName) -> Result<(), AllocError> {
-    if let Some(table) = &column.table {
-        line.push_str(table.as_str())?;
-        line.push_str(".")?;
+pub(crate) fn push(line: &mut String, parts: &[&str]) -> Result<(), AllocError> {
+    for part in parts {
+        line.push_str(part)?;
     }
-    line.push_str(column.column.as_str())
+    Ok(())
+}
+
+fn op_text(op: &Op) -> &'static str {
+    match op {
+        Op::Equal => "Equal",
+        Op::Unequal => "Unequal",
+        Op::Less => "Less",
+        Op::LessEqual => "LessEqual",
+        Op::Greater => "Greater",
+        Op::GreaterEqual => "GreaterEqual",
+    }
+}
+
+fn way_text(way: &Way) -> &'static str {
+    match way {
+        Way::Plain => "Plain",
+        Way::Asc => "Asc",
+        Way::Desc => "Desc",
+    }
+}
+
+fn push_column(line: &mut String, column: &ColumnName) -> Result<(), AllocError> {
+    match &column.table {
+        Some(table) => push(line, &[table.as_str(), ".", column.column.as_str()]),
+        None => push(line, &[column.column.as_str()]),
+    }
 }
 
 fn push_two(
     line: &mut String,
     first: &ColumnName,
-    mark: &str,
+    mark: &[&str],
     second: &ColumnName,
 ) -> Result<(), AllocError> {
     push_column(line, first)?;
-    line.push_str(mark)?;
+    push(line, mark)?;
     push_column(line, second)
 }
 
 fn push_expr(line: &mut String, expr: &Expr) -> Result<(), AllocError> {
     match expr {
-        Expr::One(column) => push_column(line, column)?,
-        Expr::Times(first, second) => push_two(line, first, "*", second)?,
-        Expr::Plus(first, second) => push_two(line, first, "+", second)?,
-        Expr::Minus(first, second) => push_two(line, first, "-", second)?,
+        Expr::One(column) => push_column(line, column),
+        Expr::Times(first, second) => push_two(line, first, &["*"], second),
+        Expr::Plus(first, second) => push_two(line, first, &["+"], second),
+        Expr::Minus(first, second) => push_two(line, first, &["-"], second),
     }
-    line.push_str(")")
+}
+
+fn push_aggregate(line: &mut String, name: &str, expr: &Expr) -> Result<(), AllocError> {
+    push(line, &[name, "("])?;
+    push_expr(line, expr)?;
+    push(line, &[")"])
+}
+
+fn push_bound(line: &mut String, name: &str, column: &ColumnName) -> Result<(), AllocError> {
+    push(line, &[name, "("])?;
+    push_column(line, column)?;
+    push(line, &[")"])
 }
 
 fn push_what(line: &mut String, what: &What) -> Result<(), AllocError> {
     match what {
         What::Column(column) => push_column(line, column),
-        What::Count => line.push_str("Count"),
-        What::Sum(expr) => {
-            line.push_str("Sum(")?;
-            push_expr(line, expr)
-        }
-        What::Avg(expr) => {
-            line.push_str("Avg(")?;
-            push_expr(line, expr)
-        }
-        What::Min(column) => {
-            line.push_str("Min(")?;
-            push_column(line, column)?;
-            line.push_str(")")
-        }
-        What::Max(column) => {
-            line.push_str("Max(")?;
-            push_column(line, column)?;
-            line.push_str(")")
-        }
+        What::Count => push(line, &["Count"]),
+        What::Sum(expr) => push_aggregate(line, "Sum", expr),
+        What::Avg(expr) => push_aggregate(line, "Avg", expr),
+        What::Min(column) => push_bound(line, "Min", column),
+        What::Max(column) => push_bound(line, "Max", column),
+    }
+}
+
+fn push_item(line: &mut String, item: &Item) -> Result<(), AllocError> {
+    push(line, &[" "])?;
+    push_what(line, &item.what)?;
+    match &item.name {
+        Some(name) => push(line, &[" as ", name.as_str(), ";"]),
+        None => push(line, &[";"]),
     }
 }
 
 fn push_items(line: &mut String, items: &[Item]) -> Result<(), AllocError> {
     for item in items {
-        line.push_str(" ")?;
-        push_what(line, &item.what)?;
-        if let Some(name) = &item.name {
-            line.push_str(" as ")?;
-            line.push_str(name.as_str())?;
-        }
-        line.push_str(";")?;
+        push_item(line, item)?;
     }
     Ok(())
 }
 
+fn push_number(alloc: Global, line: &mut String, sign: &str, value: i64) -> Result<(), AllocError> {
+    let text = format!(in alloc; "{value}")?;
+    push(line, &[" ", sign, text.as_str()])
+}
+
 fn push_literal(alloc: Global, line: &mut String, literal: &Literal) -> Result<(), AllocError> {
-    let word = match literal {
-        Literal::Number { minus, value } => {
-            let sign = if *minus { "-" } else { "" };
-            format!(in alloc; " {sign}{value}")?
-        }
-        Literal::Text(text) => format!(in alloc; " '{}'", text.as_str())?,
-        Literal::Date(text) => format!(in alloc; " d'{}'", text.as_str())?,
-    };
-    line.push_str(&word)
+    match literal {
+        Literal::Number { minus: true, value } => push_number(alloc, line, "-", *value),
+        Literal::Number {
+            minus: false,
+            value,
+        } => push_number(alloc, line, "", *value),
+        Literal::Text(text) => push(line, &[" '", text.as_str(), "'"]),
+        Literal::Date(text) => push(line, &[" d'", text.as_str(), "'"]),
+    }
 }
 
 fn push_literals(alloc: Global, line: &mut String, literals: &[Literal]) -> Result<(), AllocError> {
@@ -195,6 +225,32 @@ fn push_literals(alloc: Global, line: &mut String, literals: &[Literal]) -> Resu
         push_literal(alloc, line, literal)?;
     }
     Ok(())
+}
+
+fn push_compare(
+    alloc: Global,
+    line: &mut String,
+    op: &Op,
+    literal: &Literal,
+) -> Result<(), AllocError> {
+    push(line, &[" ", op_text(op)])?;
+    push_literal(alloc, line, literal)
+}
+
+fn push_between(
+    alloc: Global,
+    line: &mut String,
+    low: &Literal,
+    high: &Literal,
+) -> Result<(), AllocError> {
+    push(line, &[" between"])?;
+    push_literal(alloc, line, low)?;
+    push_literal(alloc, line, high)
+}
+
+fn push_among(alloc: Global, line: &mut String, list: &[Literal]) -> Result<(), AllocError> {
+    push(line, &[" in"])?;
+    push_literals(alloc, line, list)
 }
 
 fn push_test(alloc: Global, line: &mut String, test: &TestWords) -> Result<(), AllocError> {
@@ -205,26 +261,22 @@ fn push_test(alloc: Global, line: &mut String, test: &TestWords) -> Result<(), A
             literal,
         } => {
             push_column(line, column)?;
-            line.push_str(&format!(in alloc; " {op:?}")?)?;
-            push_literal(alloc, line, literal)
+            push_compare(alloc, line, op, literal)
         }
         TestWords::Columns { left, op, right } => {
-            push_two(line, left, &format!(in alloc; " {op:?} ")?, right)
+            push_two(line, left, &[" ", op_text(op), " "], right)
         }
         TestWords::Between { column, low, high } => {
             push_column(line, column)?;
-            line.push_str(" between")?;
-            push_literal(alloc, line, low)?;
-            push_literal(alloc, line, high)
+            push_between(alloc, line, low, high)
         }
         TestWords::Among { column, list } => {
             push_column(line, column)?;
-            line.push_str(" in")?;
-            push_literals(alloc, line, list.as_slice())
+            push_among(alloc, line, list.as_slice())
         }
         TestWords::Like { column, pattern } => {
             push_column(line, column)?;
-            line.push_str(&format!(in alloc; " like '{}'", pattern.as_str())?)
+            push(line, &[" like '", pattern.as_str(), "'"])
         }
     }
 }
@@ -236,9 +288,9 @@ fn push_condition(
     line: &mut String,
     condition: &Cond,
 ) -> Result<(), AllocError> {
-    line.push_str("{")?;
+    push(line, &["{"])?;
     for conjunction in condition.any.as_slice() {
-        line.push_str("[")?;
+        push(line, &["["])?;
         for primary in conjunction.all.as_slice() {
             match primary {
                 Primary::Test(test) => push_test(alloc, line, test)?,
@@ -248,60 +300,76 @@ fn push_condition(
                     }
                 }
             }
-            line.push_str(";")?;
+            push(line, &[";"])?;
         }
-        line.push_str("]")?;
+        push(line, &["]"])?;
     }
-    line.push_str("}")
+    push(line, &["}"])
 }
 
-fn push_columns(line: &mut String, columns: &[ColumnName]) -> Result<(), AllocError> {
-    for column in columns {
-        line.push_str(" ")?;
+fn push_where(
+    alloc: Global,
+    line: &mut String,
+    condition: &Option<Cond>,
+) -> Result<(), AllocError> {
+    match condition {
+        Some(condition) => {
+            push(line, &[" where "])?;
+            push_condition(alloc, 40, line, condition)
+        }
+        None => Ok(()),
+    }
+}
+
+fn push_groups(line: &mut String, columns: &[ColumnName]) -> Result<(), AllocError> {
+    for (at, column) in columns.iter().enumerate() {
+        push(line, &[if at == 0 { " group " } else { " " }])?;
         push_column(line, column)?;
     }
     Ok(())
 }
 
-fn push_keys(alloc: Global, line: &mut String, keys: &[OrderKey]) -> Result<(), AllocError> {
-    for key in keys {
-        line.push_str(" ")?;
+fn push_keys(line: &mut String, keys: &[OrderKey]) -> Result<(), AllocError> {
+    for (at, key) in keys.iter().enumerate() {
+        push(line, &[if at == 0 { " order " } else { " " }])?;
         push_column(line, &key.column)?;
-        line.push_str(&format!(in alloc; " {:?}", key.way)?)?;
+        push(line, &[" ", way_text(&key.way)])?;
     }
     Ok(())
 }
 
 fn push_tables(line: &mut String, tables: &[Word]) -> Result<(), AllocError> {
+    push(line, &[" from"])?;
     for table in tables {
-        line.push_str(" ")?;
-        line.push_str(table.as_str())?;
+        push(line, &[" ", table.as_str()])?;
     }
     Ok(())
 }
 
+fn push_limit(alloc: Global, line: &mut String, limit: &Option<u64>) -> Result<(), AllocError> {
+    match limit {
+        Some(limit) => {
+            let text = format!(in alloc; "{limit}")?;
+            push(line, &[" limit ", text.as_str()])
+        }
+        None => Ok(()),
+    }
+}
+
 // The parts of a SELECT that are there.
-pub(crate) fn select_line(alloc: Global, verb: &str, query: &Select) -> Result<String, AllocError> {
-    let mut line = String::from_str(alloc, verb)?;
-    push_items(&mut line, query.items.as_slice())?;
-    line.push_str(" from")?;
-    push_tables(&mut line, query.tables.as_slice())?;
-    if let Some(condition) = &query.condition {
-        line.push_str(" where ")?;
-        push_condition(alloc, 40, &mut line, condition)?;
-    }
-    if !query.groups.as_slice().is_empty() {
-        line.push_str(" group")?;
-        push_columns(&mut line, query.groups.as_slice())?;
-    }
-    if !query.order.as_slice().is_empty() {
-        line.push_str(" order")?;
-        push_keys(alloc, &mut line, query.order.as_slice())?;
-    }
-    if let Some(limit) = &query.limit {
-        line.push_str(&format!(in alloc; " limit {limit}")?)?;
-    }
-    Ok(line)
+pub(crate) fn push_select(
+    alloc: Global,
+    line: &mut String,
+    verb: &str,
+    query: &Select,
+) -> Result<(), AllocError> {
+    push(line, &[verb])?;
+    push_items(line, query.items.as_slice())?;
+    push_tables(line, query.tables.as_slice())?;
+    push_where(alloc, line, &query.condition)?;
+    push_groups(line, query.groups.as_slice())?;
+    push_keys(line, query.order.as_slice())?;
+    push_limit(alloc, line, &query.limit)
 }
 
 // A condition in so many pairs of parentheses, and what it says.

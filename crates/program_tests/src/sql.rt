@@ -1,8 +1,8 @@
 // Statements as their tokens say them.
-use crate::select::select_line;
-use blink_base::List;
+use crate::select::{push, push_select};
+use blink_base::{Kind, List, Word};
 use star_lex::{Token, tokens};
-use star_sql::{Literal, Statement, parse};
+use star_sql::{ColumnDef, Literal, Statement, parse};
 use std::alloc::{AllocError, Global};
 use std::test::Fail;
 
@@ -53,68 +53,95 @@ const STATEMENTS: [(&str, &str); 31] = [
     ("((((((((((((((((((((((((((((((((())", "Deep"),
 ];
 
+fn bool_text(yes: bool) -> &'static str {
+    if yes { "true" } else { "false" }
+}
+
+fn kind_text(kind: Kind) -> &'static str {
+    match kind {
+        Kind::Int => "Int",
+        Kind::Text => "Text",
+        Kind::Date => "Date",
+    }
+}
+
+fn push_number(
+    alloc: Global,
+    line: &mut String,
+    minus: bool,
+    value: i64,
+) -> Result<(), AllocError> {
+    let text = format!(in alloc; "{value}")?;
+    push(line, &[" ", bool_text(minus), " ", text.as_str()])
+}
+
 // The literals of a row.
 fn push_row(alloc: Global, line: &mut String, row: &[Literal]) -> Result<(), AllocError> {
     for literal in row {
-        let word = match literal {
-            Literal::Number { minus, value } => format!(in alloc; " {minus} {value}")?,
-            Literal::Text(text) => format!(in alloc; " '{}'", text.as_str())?,
-            Literal::Date(text) => format!(in alloc; " date '{}'", text.as_str())?,
-        };
-        line.push_str(&word)?;
+        match literal {
+            Literal::Number { minus, value } => push_number(alloc, line, *minus, *value)?,
+            Literal::Text(text) => push(line, &[" '", text.as_str(), "'"])?,
+            Literal::Date(text) => push(line, &[" date '", text.as_str(), "'"])?,
+        }
     }
-    line.push_str(";")
+    push(line, &[";"])
+}
+
+fn push_rows(alloc: Global, line: &mut String, rows: &[List<Literal>]) -> Result<(), AllocError> {
+    for row in rows {
+        push_row(alloc, line, row.as_slice())?;
+    }
+    Ok(())
+}
+
+fn push_columns(line: &mut String, columns: &[ColumnDef]) -> Result<(), AllocError> {
+    for column in columns {
+        push(line, &[" ", column.name.as_str()])?;
+        push(line, &[" ", kind_text(column.kind)])?;
+        push(line, &[" ", bool_text(column.key)])?;
+    }
+    Ok(())
+}
+
+fn push_name(line: &mut String, verb: &str, name: &Word) -> Result<(), AllocError> {
+    push(line, &[verb, " ", name.as_str()])
+}
+
+fn push_file(line: &mut String, verb: &str, name: &Word, file: &Word) -> Result<(), AllocError> {
+    push(line, &[verb, " ", name.as_str(), " ", file.as_str()])
 }
 
 // A statement, its optional words and its literals.
-fn line_of(alloc: Global, statement: &Statement) -> Result<String, AllocError> {
+fn push_statement(
+    alloc: Global,
+    line: &mut String,
+    statement: &Statement,
+) -> Result<(), AllocError> {
     match statement {
         Statement::Create { name, columns } => {
-            let mut line = format!(in alloc; "create {}", name.as_str())?;
-            for column in columns.as_slice() {
-                let word = format!(in alloc;
-                    " {} {:?} {}",
-                    column.name.as_str(),
-                    column.kind,
-                    column.key
-                )?;
-                line.push_str(&word)?;
-            }
-            Ok(line)
+            push_name(line, "create", name)?;
+            push_columns(line, columns.as_slice())
         }
         Statement::Insert { name, rows } => {
-            let mut line = format!(in alloc; "insert {}", name.as_str())?;
-            for row in rows.as_slice() {
-                push_row(alloc, &mut line, row.as_slice())?;
-            }
-            Ok(line)
+            push_name(line, "insert", name)?;
+            push_rows(alloc, line, rows.as_slice())
         }
-        Statement::Drop { name } => format!(in alloc; "drop {}", name.as_str()),
-        Statement::Load { name, file } => format!(in alloc;
-            "load {} {}",
-            name.as_str(),
-            file.as_str()
-        ),
-        Statement::Append { name, file } => format!(in alloc;
-            "append {} {}",
-            name.as_str(),
-            file.as_str()
-        ),
-        Statement::Reorganize { name } => format!(in alloc; "reorganize {}", name.as_str()),
-        Statement::Describe { name } => format!(in alloc; "describe {}", name.as_str()),
-        Statement::Export { name, file } => format!(in alloc;
-            "export {} {}",
-            name.as_str(),
-            file.as_str()
-        ),
-        Statement::Import { name, file } => format!(in alloc;
-            "import {} {}",
-            name.as_str(),
-            file.as_str()
-        ),
-        Statement::Select(query) => select_line(alloc, "select", query),
-        Statement::Explain(query) => select_line(alloc, "explain", query),
+        Statement::Drop { name } => push_name(line, "drop", name),
+        Statement::Load { name, file } => push_file(line, "load", name, file),
+        Statement::Append { name, file } => push_file(line, "append", name, file),
+        Statement::Reorganize { name } => push_name(line, "reorganize", name),
+        Statement::Describe { name } => push_name(line, "describe", name),
+        Statement::Export { name, file } => push_file(line, "export", name, file),
+        Statement::Import { name, file } => push_file(line, "import", name, file),
+        Statement::Select(query) => push_select(alloc, line, "select", query),
+        Statement::Explain(query) => push_select(alloc, line, "explain", query),
     }
+}
+
+fn line_of(alloc: Global, statement: &Statement) -> Result<String, AllocError> {
+    let mut line = String::new(alloc);
+    push_statement(alloc, &mut line, statement)?;
+    Ok(line)
 }
 
 // The tokens of a text.
