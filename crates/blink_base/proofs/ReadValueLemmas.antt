@@ -2,8 +2,6 @@
 use Rattle.std.proofs.Common.{◌≡◌, ◌≤◌, ◌<◌, ◌+◌, ◌*◌, ◌/◌, ◌%◌, ◌^◌, ℕ, zero, suc, ℤ, pos, neg_ℤ, nat_abs, Bool, true, false, not, ◌&&◌, cond, List, [], ◌∷◌, length, eqb, nat_le, nat_lt, Option, Some, None, IfOk, IsTrue, Result, Ok, Err, slice_range, refl, sym, ap, ◌∙◌, arith}
 use Rattle.std.specs.List.{list_all}
 use Rattle.std.specs.Char.{is_ascii_digit}
-use Rattle.std.specs.Option.{option_map}
-use Rattle.std.specs.Result.{result_ok}
 use Rattle.std.specs.Str.Parse.{digits_value, AllDigits}
 use Rattle.std.proofs.lemmas.Bool.{and_parts, leb-true, lt-ltb}
 use Rattle.std.proofs.lemmas.Int.Digits.{digits_value-lt}
@@ -16,7 +14,7 @@ use Rattle.blink_base.specs.declared.value.ValueFault.TheVariants as fault
 use Rattle.blink_base.specs.Dates.{date_of, days_in, is_date, is_date_number, has_date_form}
 use Rattle.blink_base.specs.RowFits.{is_entry}
 use Rattle.blink_base.specs.Numbers.{is_number, is_digits, number_of, significant, without_minus, has_minus}
-use Rattle.blink_base.specs.ReadValue.{read_value, read_number, read_text, date_or_fault}
+use Rattle.blink_base.specs.ReadValue.{read_value, read_number, read_text}
 use Rattle.blink_base.specs.Texts.{is_text}
 use Rattle.blink_base.proofs.DigitLemmas.{significant_digits, significant_value, digit_at}
 use Rattle.blink_base.proofs.PowerLemmas.{below_power}

@@ -44,8 +44,7 @@ impl Interner {
 
     /// The number of a value, counted once more: that of its first sight, or the next number where it is new.
     ///
-    /// Fewer than 4,294,967,296 values were numbered before. Want of memory changes nothing; it comes for a new value
-    /// alone.
+    /// Fewer than 4,294,967,296 values were numbered before. Want of memory changes nothing.
     pub fn number(&mut self, value: &Value) -> Result<u32, AllocError>
         requires { numbered_values self.old < 4294967296 }
         ensures number { IfOk result (λ n. n ≡ number_of self.old value.now) }

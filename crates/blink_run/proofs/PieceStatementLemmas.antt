@@ -8,7 +8,7 @@ use Rattle.star_lex.specs.Lex.{lexed}
 use Rattle.star_sql.specs.declared.ast.Statement.{Statement}
 use Rattle.star_sql.specs.ParseResult.{kinds_of, is_deep, IsSpelled}
 use Rattle.star_sql.specs.PieceStatement.{Says, is_passed_over}
-use Rattle.blink_run.specs.StatementOutput.{HasFewTokens}
+use Rattle.star_sql.specs.Spelling.{HasFewTokens}
 
 -- tokens that aren't too deep say the statement that they are the spelling of
 pub says_statement : (text : List ℕ) (tokens : List Token) (s : Statement) → lexed text ≡ Ok tokens → is_deep (kinds_of tokens) ≡ false → IsSpelled (kinds_of tokens) s → Says text (Ok s)

@@ -30,10 +30,6 @@ abbrev pub IsLine : Bytes → Bool → Result Output Stop → Type 0
 IsLine line refused (Ok output) = (output.line ≡ line) × (output.refused ≡ refused)
 IsLine line refused (Err why) = why ≡ stop.Memory
 
--- a statement is written with fewer tokens than a number of 32 bits has values
-abbrev pub HasFewTokens : Statement → Type 0
-HasFewTokens s = length (spell s) < 2 ^ 32
-
 -- the store failed
 abbrev pub IsStoreStop : Stop → Type 0
 IsStoreStop stop.Memory = ⊥

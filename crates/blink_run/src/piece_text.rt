@@ -3,7 +3,7 @@ ghost use Rattle.std.specs.Prelude.{◌≡◌, ◌≤◌, true, false, length, O
 ghost use Rattle.blink_base.specs.declared.limits.TheConstants.{LONGEST_INPUT};
 ghost use Rattle.star_sql.specs.PieceStatement.{Says, is_passed_over};
 ghost use Rattle.star_sql.specs.declared.ast.Statement.{Statement as Stated};
-ghost use Rattle.blink_run.specs.StatementOutput.{HasFewTokens};
+ghost use Rattle.star_sql.specs.Spelling.{HasFewTokens};
 
 use blink_base::Refusal;
 use star_lex::{LexFault, tokens};

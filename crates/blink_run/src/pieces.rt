@@ -9,7 +9,8 @@ ghost use Rattle.star_engine.specs.Step.{piece_asks_store};
 ghost use Rattle.star_engine.specs.EngineRepr.{HasTables, IsEngineOf};
 ghost use Rattle.blink_run.specs.Ends.{AreFiles, IsAsked};
 ghost use Rattle.blink_run.specs.Script.{NeverAsks};
-ghost use Rattle.blink_run.specs.StatementOutput.{HasFewTokens, IsAsking, IsSaidFrom, IsStoreFault, IsPieceAnswer};
+ghost use Rattle.blink_run.specs.StatementOutput.{IsAsking, IsSaidFrom, IsStoreFault, IsPieceAnswer};
+ghost use Rattle.star_sql.specs.Spelling.{HasFewTokens};
 ghost use Rattle.blink_run.specs.PiecesRun.{AreAnswered, AreStopped, Stands, sink_view};
 ghost use Rattle.blink_run.specs.PieceSpans.{IsWithin, text_at};
 

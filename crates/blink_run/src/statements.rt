@@ -10,7 +10,8 @@ ghost use Rattle.blink_run.specs.Ends.{AreFiles, IsAsked};
 ghost use Rattle.report_text.specs.Texts.{refusal_bytes};
 ghost use Rattle.star_engine.specs.Step.{asks_store, fetched};
 ghost use Rattle.blink_base.specs.declared.limits.TheConstants.{LONGEST_CSV};
-ghost use Rattle.blink_run.specs.StatementOutput.{HasFewTokens, IsLine, IsReply, IsReplyFrom, IsFetched, IsStoreFault, bytes_in, loads};
+ghost use Rattle.blink_run.specs.StatementOutput.{IsLine, IsReply, IsReplyFrom, IsFetched, IsStoreFault, bytes_in, loads};
+ghost use Rattle.star_sql.specs.Spelling.{HasFewTokens};
 
 use crate::output::{Output, Stop, addition, done, refused, refused_by};
 use blink_base::{LONGEST_CSV, List, Refusal, Word};

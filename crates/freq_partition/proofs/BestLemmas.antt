@@ -1,10 +1,9 @@
 -- What stands in a list, and what the best of a list costs.
-use Rattle.std.proofs.Common.{ℕ, zero, suc, ◌+◌, ◌-◌, ◌^◌, ◌≤◌, ◌<◌, ◌≡◌, ◌&&◌, ◌⊎◌, List, [], ◌∷◌, ◌++◌, map, filter, fold, true, false, nat_le, nat_lt, ◌==◌, le_of_lt, inl, inr, refl, arith, le_refl, le_trans, Bool, length}
-use Rattle.std.specs.List.{flat_map}
+use Rattle.std.proofs.Common.{ℕ, zero, suc, ◌+◌, ◌-◌, ◌^◌, ◌≤◌, ◌<◌, ◌≡◌, ◌&&◌, ◌⊎◌, List, [], ◌∷◌, map, fold, true, false, nat_le, nat_lt, ◌==◌, le_of_lt, inl, inr, refl, arith, le_refl, le_trans, length}
 use Rattle.std.specs.declared.cmp.Ordering.{Ordering}
 use Rattle.std.specs.Ordering.{is_lt, ordering_then, nat_cmp, on, then_cmp}
 use Rattle.std.specs.Cmp.Lexicographic.{slice_cmp}
-use Rattle.std.proofs.lemmas.Bool.{cases_Bool, cases_eq, and_from, lt-ltb, le-leb, ltb-true, ltb-false, eqb-true, both_ways, cond_both}
+use Rattle.std.proofs.lemmas.Bool.{cases_Bool, and_from, lt-ltb, le-leb, ltb-true, ltb-false, eqb-true, both_ways, cond_both}
 use Rattle.blink_lists.specs.Lists.{numbers_from}
 use Rattle.blink_lists.specs.Widths.{width_for}
 use Rattle.blink_lists.specs.declared.limits.TheConstants.{MOST_WIDTH}

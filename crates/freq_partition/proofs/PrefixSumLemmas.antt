@@ -1,8 +1,5 @@
 -- Sums over parts of a list, and of a list that never rises.
-use Rattle.std.proofs.Common.{ℕ, zero, suc, ◌+◌, ◌-◌, ◌≤◌, ◌≡◌, List, [], ◌∷◌, take, drop, length, sum, All, true, refl, arith, le_refl, le_trans}
-use Rattle.std.proofs.Math.Seq.{take-add}
-use Rattle.std.proofs.lemmas.List.Sums.{sum_by-cons, sum_by-append, sum_by-take-le}
-use Rattle.std.proofs.lemmas.List.Elements.{All-head, All-tail}
+use Rattle.std.proofs.Common.{ℕ, zero, suc, ◌≤◌, ◌≡◌, List, [], ◌∷◌, take, drop, sum, true, refl, arith, le_refl, le_trans}
 use Rattle.std.proofs.lemmas.Bool.{and_parts, leb-true}
 use Rattle.freq_partition.specs.Division.{never_rises}
 use Rattle.blink_lists.proofs.SumLemmas.{sum-cons}

@@ -1,7 +1,6 @@
 -- Values that rise, and the numbers of the smaller ones.
 use Rattle.std.proofs.Common.{◌≡◌, ℕ, zero, suc, ◌+◌, ◌<◌, ◌≤◌, Bool, true, false, not, List, [], ◌∷◌, get_or, length, cond, refl, sym, ap, ◌∙◌, arith, inl, inr, Result, Ok, Err}
 use Rattle.std.specs.Result.{MatchResult, is_ok}
-use Rattle.std.specs.declared.cmp.Ordering.{Ordering}
 use Rattle.std.specs.declared.cmp.Ordering.TheVariants.{Less, Equal, Greater}
 use Rattle.std.specs.Ordering.{is_lt, is_eq, nat_cmp, ordering_reverse, ordering_index}
 use Rattle.std.specs.Cmp.{nat_cmp_is}

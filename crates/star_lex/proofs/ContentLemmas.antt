@@ -1,10 +1,9 @@
 -- The contents of names and texts.
-use Rattle.std.proofs.Common.{◌≡◌, ◌≢◌, ◌<◌, ◌+◌, ◌∙◌, ◌||◌, ℕ, zero, suc, true, false, List, [], ◌∷◌, Option, Some, None, Ok, Err, map, length, drop, get_or, eqb, leb, cond, ap, sym, inl, inr, refl, arith}
+use Rattle.std.proofs.Common.{◌≡◌, ◌≢◌, ◌<◌, ◌+◌, ◌∙◌, ◌||◌, ℕ, true, false, List, [], ◌∷◌, Option, Some, None, Ok, Err, map, length, drop, get_or, eqb, leb, cond, ap, sym, inl, inr, refl, arith}
 use Rattle.std.specs.List.{list_all}
 use Rattle.std.specs.Char.{is_ascii, is_ascii_digit, is_ascii_lowercase, is_ascii_uppercase, to_ascii_lowercase}
-use Rattle.std.specs.Str.{IsUtf8, is_utf8, str_to_ascii_lowercase}
-use Rattle.std.proofs.lemmas.Bool.{and_parts, or_cases, or_left, or_right, or_from, false_from_ne_true, eqb-true, leb-true, ltb-true, lt-ltb, le-ltb, ne_eqb, and_from, cases_lt}
-use Rattle.std.proofs.lemmas.Str.{IsUtf8-from_ascii, IsUtf8-from_is_utf8, is_utf8-from_IsUtf8}
+use Rattle.std.specs.Str.{is_utf8, str_to_ascii_lowercase}
+use Rattle.std.proofs.lemmas.Bool.{and_parts, or_cases, or_left, eqb-true, leb-true, lt-ltb, le-ltb, ne_eqb, and_from, cases_lt}
 use Rattle.std.proofs.lemmas.List.{drop_more, drop-drop}
 use Rattle.blink_base.specs.Texts.{is_text}
 use Rattle.blink_base.specs.Identifiers.{begins_name, is_name_byte}

@@ -27,9 +27,10 @@ fn whole(alloc: Global, tokens: &[Token]) -> Result<Statement, ParseFault>
 
 /// The statement that some tokens say: the well formed one that they are the spelling of.
 ///
-/// It takes time and memory linear in the number and the bytes of the tokens. Only a condition in parentheses is read
-/// by recursion, so 32 times deep at most; lists of any length, those of AND and OR too, don't grow the stack.
 /// Source: ISO/IEC 9075, in this project's own profile.
+//
+// No clause speaks of time and of the stack: the body goes over the tokens once, and only a condition in parentheses is
+// read by recursion.
 #[tactic(auto, using(crate::proofs::StatementLemmas::gives_no_depth))]
 pub fn parse(alloc: Global, tokens: &List<Token>) -> Result<Statement, ParseFault>
     // The tokens are the spelling of the statement, which is well formed.

@@ -1,5 +1,5 @@
 -- No narrower width holds the codes: the next may be the least.
-use Rattle.std.proofs.Common.{◌≡◌, ◌<◌, ◌+◌, ◌^◌, ℕ, arith, sym, ◌∙◌}
+use Rattle.std.proofs.Common.{◌≡◌, ◌<◌, ◌+◌, ◌^◌, arith, sym, ◌∙◌}
 use Rattle.blink_lists.proofs.WidthLemmas.{width_from_first, width_from_here, width_from_next, width_from_last}
 use Rattle.blink_lists.proofs.widths.width_for.Goals as goal
 
