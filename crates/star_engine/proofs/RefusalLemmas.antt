@@ -47,15 +47,15 @@ keys_told (Some key) accepted rows batch r =
     ∙ told_once (repeated_key (column_values rows key) (column_values batch key))
 
 -- the first refusal of a batch is that of the layout
-pub first_told : (limits : Limits) (held : AcceptedTable) (batch : List Row) → Rearranged held.rows (rows_of held.image) → first_of (add_refusals limits held batch) ≡ as_refusal (refusal_of limits.rows held.image batch)
-first_told limits held batch r =
-    ap (λ n. first_of (if_many limits (n + length batch) ++ if_repeated held.image.schema.key held.rows batch)) (length-rearranged r)
-    ∙ by (nat_lt limits.rows (row_count held.image + length batch)) refl
+pub first_told : (limits : Limits) (accepted : AcceptedTable) (batch : List Row) → Rearranged accepted.rows (rows_of accepted.image) → first_of (add_refusals limits accepted batch) ≡ as_refusal (refusal_of limits.rows accepted.image batch)
+first_told limits accepted batch r =
+    ap (λ n. first_of (if_many limits (n + length batch) ++ if_repeated accepted.image.schema.key accepted.rows batch)) (length-rearranged r)
+    ∙ by (nat_lt limits.rows (row_count accepted.image + length batch)) refl
   where
-    by : (b : Bool) → nat_lt limits.rows (row_count held.image + length batch) ≡ b
-        → first_of (if_many limits (row_count held.image + length batch) ++ if_repeated held.image.schema.key held.rows batch) ≡ as_refusal (refusal_of limits.rows held.image batch)
+    by : (b : Bool) → nat_lt limits.rows (row_count accepted.image + length batch) ≡ b
+        → first_of (if_many limits (row_count accepted.image + length batch) ++ if_repeated accepted.image.schema.key accepted.rows batch) ≡ as_refusal (refusal_of limits.rows accepted.image batch)
     by true e = rw e refl
-    by false e = rw e (keys_told held.image.schema.key held.rows (rows_of held.image) batch r)
+    by false e = rw e (keys_told accepted.image.schema.key accepted.rows (rows_of accepted.image) batch r)
 
 -- a refused layout is the cause that the definition gives
 pub cause_told : {X : Type 0} (why : LayoutError) (o : Option LayoutError) (x : X) → (why ≢ Memory → o ≡ Some why) → IsCause (layout_error why) (unless (as_refusal o) x)

@@ -55,7 +55,7 @@ module _ {M : Type 0} where
     -- a name without a table
     pub unknown : position (called name) engine.tables ≡ None → find_table tables name ≡ None
     unknown none =
-        let no : position (called name) (map table_of tables) ≡ None = ap (position (called name)) (sym of.held) ∙ none in
+        let no : position (called name) (map table_of tables) ≡ None = ap (position (called name)) (sym of.accepted) ∙ none in
         let le = no_place (called name) (map table_of tables) no in
         let same = place-map table_of (called name) tables in
         let long = length-map tables (table_of {M = M}) in
@@ -64,7 +64,7 @@ module _ {M : Type 0} where
     -- the table of a name, at its place
     pub known : (at : ℕ) → position (called name) engine.tables ≡ Some at → Finding tables name at
     known at is =
-        let there : position (called name) (map table_of tables) ≡ Some at = ap (position (called name)) (sym of.held) ∙ is in
+        let there : position (called name) (map table_of tables) ≡ Some at = ap (position (called name)) (sym of.accepted) ∙ is in
         let place = place_is (called name) (map table_of tables) at there in
         let long = length-map tables (table_of {M = M}) in
         found_at name tables at of.sound.distinct (place.0 ∙ place-map table_of (called name) tables) (omega (arith, place.1, long))
@@ -89,10 +89,10 @@ module _ {M : Type 0} where
 
     -- whether there is room for one more table
     pub is_full : MOST_TABLES ≤ length engine.tables → nat_le MOST_TABLES (length tables) ≡ true
-    is_full le = let long = ap length of.held ∙ length-map tables (table_of {M = M}) in le-leb 64 (length tables) (omega arith)
+    is_full le = let long = ap length of.accepted ∙ length-map tables (table_of {M = M}) in le-leb 64 (length tables) (omega arith)
 
     pub has_room : length engine.tables < MOST_TABLES → nat_le MOST_TABLES (length tables) ≡ false
-    has_room lt = let long = ap length of.held ∙ length-map tables (table_of {M = M}) in lt-leb 64 (length tables) (omega arith)
+    has_room lt = let long = ap length of.accepted ∙ length-map tables (table_of {M = M}) in lt-leb 64 (length tables) (omega arith)
 
     pub room_exists : has_table tables name ≡ true → roomed tables name ≡ Err (refusal.TableExists name)
     room_exists e = ap (λ b. unless (first_of (when b (refusal.TableExists name) ++ if_full tables)) tables) e
@@ -126,12 +126,12 @@ module _ {M : Type 0} where
           let one : Table M = record { name = name; image = image } in
           let same : one ≡ table_of h = (λ i. record { name = name; image = is i }) in
           let few = lt in
-          let long = ap length of.held ∙ length-map tables (table_of {M = M}) in
+          let long = ap length of.accepted ∙ length-map tables (table_of {M = M}) in
           record {
             tables = and_table tables h;
             given = λ i. told_by (e i) (f i) (room i);
             kept = record {
-              held = made ∙ (λ i. of.held i ++ same i ∷ []) ∙ sym (map-append table_of tables (h ∷ []));
+              accepted = made ∙ (λ i. of.accepted i ++ same i ∷ []) ∙ sym (map-append table_of tables (h ∷ []));
               limits = of.limits;
               sound = sound-and engine.limits tables h of.sound
                   (record { valid = ap is_valid (sym is) ∙ valid; few = omega arith; rows = itself [] }) (none_named tables name e) (omega arith);
@@ -143,105 +143,105 @@ module _ {M : Type 0} where
       finding = known at is
 
       -- what stands at the place
-      pub stands : (d : Table M) → get_or engine.tables at d ≡ table_of finding.held
+      pub stands : (d : Table M) → get_or engine.tables at d ≡ table_of finding.accepted
       stands d =
           let within = finding.is.within in
-          ap (λ ts. get_or ts at d) of.held ∙ got_shown tables at d finding.is.within ∙ ap table_of (finding.is.here finding.held)
+          ap (λ ts. get_or ts at d) of.accepted ∙ got_shown tables at d finding.is.within ∙ ap table_of (finding.is.here finding.accepted)
         where
-          got_shown : (hs : Tables) (k : ℕ) (d : Table M) → k < length hs → get_or (map table_of hs) k d ≡ table_of (get_or hs k finding.held)
+          got_shown : (hs : Tables) (k : ℕ) (d : Table M) → k < length hs → get_or (map table_of hs) k d ≡ table_of (get_or hs k finding.accepted)
           got_shown [] k d lt = absurd (omega (arith, lt))
           got_shown (h ∷ hs) zero d lt = refl
           got_shown (h ∷ hs) (suc k) d lt = got_shown hs k d (omega (arith, lt))
 
-      pub was_sound : IsSoundTable engine.limits finding.held
-      was_sound = let P : AcceptedTable → Type 0 = IsSoundTable engine.limits in subst P (finding.is.here finding.held) (of.sound.each at finding.held finding.is.within)
+      pub was_sound : IsSoundTable engine.limits finding.accepted
+      was_sound = let P : AcceptedTable → Type 0 = IsSoundTable engine.limits in subst P (finding.is.here finding.accepted) (of.sound.each at finding.accepted finding.is.within)
 
       -- a batch is refused as the definition says
       pub refused : (growth : Growth) (read : Schema → Result (List Row) Refusal) (batch : List Row) (why : LayoutError) (d : Table M) → read (get_or engine.tables at d).image.schema ≡ Ok batch
           → (why ≢ Memory → refusal_of engine.limits.rows (get_or engine.tables at d).image batch ≡ Some why)
           → IsCause (layout_error why) (added engine.limits growth tables name read)
       refused growth read batch why d told refusal =
-          let held = finding.held in
+          let accepted = finding.accepted in
           let here = stands d in
-          let is_told : read held.image.schema ≡ Ok batch = ap (λ (t : Table M). read t.image.schema) (sym here) ∙ told in
-          let result : added engine.limits growth tables name read ≡ unless (as_refusal (refusal_of engine.limits.rows held.image batch)) (with_table tables (added_to growth held batch), length batch) =
-          (ap (add_found engine.limits growth tables name read) finding.is.found ∙ ap (add_rows engine.limits growth tables held) is_told
-          ∙ ap (λ o. unless o (with_table tables (added_to growth held batch), length batch)) (first_told engine.limits held batch was_sound.rows)) in
-          rw result (cause_told why (refusal_of engine.limits.rows held.image batch) _ (λ other. ap (λ (t : Table M). refusal_of engine.limits.rows t.image batch) (sym here) ∙ refusal other))
+          let is_told : read accepted.image.schema ≡ Ok batch = ap (λ (t : Table M). read t.image.schema) (sym here) ∙ told in
+          let result : added engine.limits growth tables name read ≡ unless (as_refusal (refusal_of engine.limits.rows accepted.image batch)) (with_table tables (added_to growth accepted batch), length batch) =
+          (ap (add_found engine.limits growth tables name read) finding.is.found ∙ ap (add_rows engine.limits growth tables accepted) is_told
+          ∙ ap (λ o. unless o (with_table tables (added_to growth accepted batch), length batch)) (first_told engine.limits accepted batch was_sound.rows)) in
+          rw result (cause_told why (refusal_of engine.limits.rows accepted.image batch) _ (λ other. ap (λ (t : Table M). refusal_of engine.limits.rows t.image batch) (sym here) ∙ refusal other))
 
       -- a batch that can't be read is refused
       pub unread : (growth : Growth) (read : Schema → Result (List Row) Refusal) (e : EngineError) (d : Table M) → IsCause e (read (get_or engine.tables at d).image.schema) → IsCause e (added engine.limits growth tables name read)
       unread growth read e d told =
-          let held = finding.held in
-          let is_told : IsCause e (read held.image.schema) = (let P : Table M → Type 0 = λ t. IsCause e (read t.image.schema) in subst P (stands d) told) in
-          let result : added engine.limits growth tables name read ≡ add_rows engine.limits growth tables held (read held.image.schema) = ap (add_found engine.limits growth tables name read) finding.is.found in
-          rw result (by e (read held.image.schema) is_told)
+          let accepted = finding.accepted in
+          let is_told : IsCause e (read accepted.image.schema) = (let P : Table M → Type 0 = λ t. IsCause e (read t.image.schema) in subst P (stands d) told) in
+          let result : added engine.limits growth tables name read ≡ add_rows engine.limits growth tables accepted (read accepted.image.schema) = ap (add_found engine.limits growth tables name read) finding.is.found in
+          rw result (by e (read accepted.image.schema) is_told)
         where
-          by : (e : EngineError) (r : Result (List Row) Refusal) → IsCause e r → IsCause e (add_rows engine.limits growth tables finding.held r)
+          by : (e : EngineError) (r : Result (List Row) Refusal) → IsCause e r → IsCause e (add_rows engine.limits growth tables finding.accepted r)
           by (fault.Refused why) r told = rw told refl
           by fault.Memory r told = tt
 
       module _ (growth : Growth) (new : List (Table M)) (batch : List Row) (d : Table M) (a : IsAddedAt growth engine.tables new at batch d) where
-        abbrev held' : AcceptedTable
-        held' = added_to growth finding.held batch
+        abbrev accepted' : AcceptedTable
+        accepted' = added_to growth finding.accepted batch
 
-        is_added : IsAdded growth (table_of finding.held) a.table batch
+        is_added : IsAdded growth (table_of finding.accepted) a.table batch
         is_added = let P : Table M → Type 0 = λ t. IsAdded growth t a.table batch in subst P (stands d) a.added
 
-        is_table : a.table ≡ table_of held'
+        is_table : a.table ≡ table_of accepted'
         is_table = λ i. record { name = is_added.name i; image = is_added.image i }
 
-        is_kept : new ≡ map table_of (with_table tables held')
+        is_kept : new ≡ map table_of (with_table tables accepted')
         is_kept =
-            a.tables ∙ ap (λ ts. slice_set ts at a.table) of.held ∙ ap (slice_set (map table_of tables) at) is_table ∙ sym (map-set table_of tables at held')
-            ∙ ap (map table_of) (sym (finding.is.replaced held' refl))
+            a.tables ∙ ap (λ ts. slice_set ts at a.table) of.accepted ∙ ap (slice_set (map table_of tables) at) is_table ∙ sym (map-set table_of tables at accepted')
+            ∙ ap (map table_of) (sym (finding.is.replaced accepted' refl))
 
-        is_sound : row_count finding.held.image + length batch ≤ engine.limits.rows → IsSoundTable engine.limits held'
+        is_sound : row_count finding.accepted.image + length batch ≤ engine.limits.rows → IsSoundTable engine.limits accepted'
         is_sound few = record {
           valid = ap is_valid (sym is_added.image) ∙ is_added.valid;
           few =
               let same = ap row_count is_added.image in
               let long = length-rearranged is_added.rows in
-              let both = length-append (rows_of finding.held.image) batch in
+              let both = length-append (rows_of finding.accepted.image) batch in
               omega arith;
-          rows = followed (behind batch was_sound.rows) (let P : TableImage → Type 0 = λ im. Rearranged (rows_of finding.held.image ++ batch) (rows_of im) in subst P is_added.image is_added.rows);
+          rows = followed (behind batch was_sound.rows) (let P : TableImage → Type 0 = λ im. Rearranged (rows_of finding.accepted.image ++ batch) (rows_of im) in subst P is_added.image is_added.rows);
         }
 
-        is_engine : row_count finding.held.image + length batch ≤ engine.limits.rows → IsEngineOf (with_table tables held') (record engine { tables = new })
-        is_engine few = record { held = is_kept; limits = of.limits; sound = sound-with engine.limits tables held' of.sound (is_sound few) }
+        is_engine : row_count finding.accepted.image + length batch ≤ engine.limits.rows → IsEngineOf (with_table tables accepted') (record engine { tables = new })
+        is_engine few = record { accepted = is_kept; limits = of.limits; sound = sound-with engine.limits tables accepted' of.sound (is_sound few) }
 
-        room : refusal_of engine.limits.rows (get_or engine.tables at d).image batch ≡ None → refusal_of engine.limits.rows finding.held.image batch ≡ None
+        room : refusal_of engine.limits.rows (get_or engine.tables at d).image batch ≡ None → refusal_of engine.limits.rows finding.accepted.image batch ≡ None
         room none = ap (λ (t : Table M). refusal_of engine.limits.rows t.image batch) (sym (stands d)) ∙ none
 
         -- a batch is added as the definition says
         pub made : (read : Schema → Result (List Row) Refusal) → read (get_or engine.tables at d).image.schema ≡ Ok batch → refusal_of engine.limits.rows (get_or engine.tables at d).image batch ≡ None
             → IsMadeWith (added engine.limits growth tables name read) (length batch) (record engine { tables = new })
         made read told none =
-            let held = finding.held in
-            let is_told : read held.image.schema ≡ Ok batch = ap (λ (t : Table M). read t.image.schema) (sym (stands d)) ∙ told in
+            let accepted = finding.accepted in
+            let is_told : read accepted.image.schema ≡ Ok batch = ap (λ (t : Table M). read t.image.schema) (sym (stands d)) ∙ told in
             record {
-              tables = with_table tables held';
+              tables = with_table tables accepted';
               given =
-                  ap (add_found engine.limits growth tables name read) finding.is.found ∙ ap (add_rows engine.limits growth tables held) is_told
-                  ∙ ap (λ o. unless o (with_table tables held', length batch)) (first_told engine.limits held batch was_sound.rows ∙ ap as_refusal (room none));
-              kept = is_engine (few_rows engine.limits.rows held.image batch (room none));
+                  ap (add_found engine.limits growth tables name read) finding.is.found ∙ ap (add_rows engine.limits growth tables accepted) is_told
+                  ∙ ap (λ o. unless o (with_table tables accepted', length batch)) (first_told engine.limits accepted batch was_sound.rows ∙ ap as_refusal (room none));
+              kept = is_engine (few_rows engine.limits.rows accepted.image batch (room none));
             }
 
       -- rows are laid out anew as the definition says
       pub remade : (new : List (Table M)) (d : Table M) → IsAddedAt Anew engine.tables new at [] d → IsMade (reorganized tables name) (record engine { tables = new })
       remade new d a =
-          let held = finding.held in
-          let same : added_to Anew held [] ≡ record { name = held.name; rows = held.rows; image = laid held.image.schema (rows_of held.image) } =
-          (λ i. record { name = held.name; rows = append-nil held.rows i; image = laid held.image.schema (append-nil (rows_of held.image) i) }) in
+          let accepted = finding.accepted in
+          let same : added_to Anew accepted [] ≡ record { name = accepted.name; rows = accepted.rows; image = laid accepted.image.schema (rows_of accepted.image) } =
+          (λ i. record { name = accepted.name; rows = append-nil accepted.rows i; image = laid accepted.image.schema (append-nil (rows_of accepted.image) i) }) in
           record {
-            tables = with_table tables (added_to Anew held []);
+            tables = with_table tables (added_to Anew accepted []);
             given = ap (reorganize_found tables name) finding.is.found ∙ ap (λ h. Ok (with_table tables h)) (sym same);
             kept = is_engine Anew new [] d a (let few = was_sound.few in omega arith);
           }
 
       pub never : (why : LayoutError) (d : Table M) → (why ≢ Memory → refusal_of engine.limits.rows (get_or engine.tables at d).image [] ≡ Some why) → IsCause (layout_error why) (reorganized tables name)
       never why d refusal =
-          let none = ap (λ (t : Table M). refusal_of engine.limits.rows t.image []) (stands d) ∙ none_refused engine.limits.rows finding.held.image was_sound.few in
+          let none = ap (λ (t : Table M). refusal_of engine.limits.rows t.image []) (stands d) ∙ none_refused engine.limits.rows finding.accepted.image was_sound.few in
           let only : why ≡ Memory = only_memory _ why none refusal in
           rw only tt
 
@@ -251,7 +251,7 @@ module _ {M : Type 0} where
         tables = without_table tables name;
         given = ap (drop_found tables name) finding.is.found;
         kept = record {
-          held = ap (λ ts. remove ts at) of.held ∙ removed tables at ∙ ap (map table_of) (sym finding.is.left);
+          accepted = ap (λ ts. remove ts at) of.accepted ∙ removed tables at ∙ ap (map table_of) (sym finding.is.left);
           limits = of.limits;
           sound = sound-without engine.limits tables name of.sound;
         };
@@ -265,7 +265,7 @@ module _ {M : Type 0} where
 
   module _ (tables : Tables) (engine : Engine M) (name : List ℕ) (of : IsEngineOf tables engine) (at : ℕ) (is : position (called name) engine.tables ≡ Some at) where
     here : Table M
-    here = table_of (finding tables engine name of at is).held
+    here = table_of (finding tables engine name of at is).accepted
 
     -- the same, as calls say it
     pub unread_there : (growth : Growth) (read : Schema → Result (List Row) Refusal) (e : EngineError) → ((d : Table M) → IsCause e (read (get_or engine.tables at d).image.schema)) → IsCause e (added engine.limits growth tables name read)

@@ -1,9 +1,8 @@
 -- The place of a table among the tables, and what is changed there.
-use Rattle.std.proofs.Common.{◌≡◌, ◌<◌, ◌≤◌, ◌+◌, ℕ, zero, suc, Bool, true, false, not, cond, List, [], ◌∷◌, map, find, length, get_or, slice_get, slice_set, nat_lt, Some, None, position, refl, sym, ap, ◌∙◌, arith}
-use Rattle.std.specs.Option.{option_map}
+use Rattle.std.proofs.Common.{◌≡◌, ◌<◌, ℕ, suc, Bool, true, false, not, List, [], ◌∷◌, map, length, get_or, slice_set, Some, refl, sym, ap, ◌∙◌, arith}
 use Rattle.std.specs.List.{list_any, position_or_len, remove}
 use Rattle.std.specs.Str.{bytes_eq}
-use Rattle.std.proofs.lemmas.Bool.{and_parts, or_parts, not-true, ltb-true, ltb-false}
+use Rattle.std.proofs.lemmas.Bool.{and_parts, or_parts, not-true}
 use Rattle.std.proofs.lemmas.Slice.Eq.{bytes_eq-Decides}
 use Rattle.blink_lists.specs.Lists.{are_distinct}
 use Rattle.star_engine.specs.State.{AcceptedTable, Tables, find_table, with_table, without_table}
@@ -34,17 +33,17 @@ all_left (x ∷ xs) name none =
     rw (parts.0, rest) refl
 
 -- the table of a name, at its place
-pub record IsFound (tables : Tables) (name : List ℕ) (held : AcceptedTable) (at : ℕ) : Type 0 where
-  pub found : find_table tables name ≡ Some held
+pub record IsFound (tables : Tables) (name : List ℕ) (accepted : AcceptedTable) (at : ℕ) : Type 0 where
+  pub found : find_table tables name ≡ Some accepted
   pub within : at < length tables
-  pub here : (d : AcceptedTable) → get_or tables at d ≡ held
-  pub named : name ≡ held.name
-  pub replaced : (h : AcceptedTable) → h.name ≡ held.name → with_table tables h ≡ slice_set tables at h
+  pub here : (d : AcceptedTable) → get_or tables at d ≡ accepted
+  pub named : name ≡ accepted.name
+  pub replaced : (h : AcceptedTable) → h.name ≡ accepted.name → with_table tables h ≡ slice_set tables at h
   pub left : without_table tables name ≡ remove tables at
 
 pub record Finding (tables : Tables) (name : List ℕ) (at : ℕ) : Type 0 where
-  pub held : AcceptedTable
-  pub is : IsFound tables name held at
+  pub accepted : AcceptedTable
+  pub is : IsFound tables name accepted at
 
 module _ (name : List ℕ) where
   abbrev has : AcceptedTable → Bool
@@ -69,8 +68,8 @@ module _ (name : List ℕ) where
             rw (e, others) refl;
       }
 
-  later_found : (x : AcceptedTable) (xs : Tables) (held : AcceptedTable) (k : ℕ) → has x ≡ false → IsFound xs name held k → IsFound (x ∷ xs) name held (suc k)
-  later_found x xs held k e f = record {
+  later_found : (x : AcceptedTable) (xs : Tables) (accepted : AcceptedTable) (k : ℕ) → has x ≡ false → IsFound xs name accepted k → IsFound (x ∷ xs) name accepted (suc k)
+  later_found x xs accepted k e f = record {
     found = rw e f.found;
     within = let w = f.within in omega arith;
     here = λ d. f.here d;
@@ -89,9 +88,9 @@ module _ (name : List ℕ) where
       by : (b : Bool) → has x ≡ b → ((k : ℕ) → k ≡ position_or_len has xs → k < length xs → Finding xs name k) → Finding (x ∷ xs) name at
       by true e rest =
           let first : at ≡ 0 = is ∙ rw e refl in
-          rw first (record { held = x; is = first_found x xs (not-true _ (and_parts (not (list_any (bytes_eq x.name) (names xs))) (are_distinct bytes_eq (names xs)) each).0) e })
+          rw first (record { accepted = x; is = first_found x xs (not-true _ (and_parts (not (list_any (bytes_eq x.name) (names xs))) (are_distinct bytes_eq (names xs)) each).0) e })
       by false e rest =
           let k = position_or_len has xs in
           let later : at ≡ suc k = is ∙ rw e (omega arith) in
           let f = rest k refl (omega (arith, lt, later)) in
-          rw later (record { held = f.held; is = later_found x xs f.held k e f.is })
+          rw later (record { accepted = f.accepted; is = later_found x xs f.accepted k e f.is })

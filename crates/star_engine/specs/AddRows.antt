@@ -1,5 +1,5 @@
 -- What a batch makes of the table at a place. Source: this project's own.
-use Rattle.std.specs.Prelude.{◌≡◌, ℕ, Bool, List, ◌++◌, IsTrue, slice_index_or, slice_set}
+use Rattle.std.specs.Prelude.{◌≡◌, ℕ, List, ◌++◌, IsTrue, slice_index_or, slice_set}
 use Rattle.blink_base.specs.Values.{Row}
 use Rattle.blink_lists.specs.Rearrangement.{Rearranged}
 use Rattle.cell_layout.specs.Image.{rows_of}

@@ -1,5 +1,5 @@
 -- What the statements that change tables make of them, or their first refusal. Source: ISO/IEC 9075 (tables, rows, primary keys); the statements on layout, the limits and the order of refusals are this project's own.
-use Rattle.std.specs.Prelude.{ℕ, ◌+◌, Bool, true, false, not, ◌||◌, List, [], ◌∷◌, ◌++◌, map, length, count_by, position, nat_le, nat_lt, Option, Some, None, Result, Ok, Err, if◌then◌else◌}
+use Rattle.std.specs.Prelude.{ℕ, ◌+◌, Bool, not, ◌||◌, List, [], ◌∷◌, ◌++◌, map, length, count_by, position, nat_le, nat_lt, Option, Some, None, Result, Ok, Err, if◌then◌else◌}
 use Rattle.std.specs.Str.{bytes_eq}
 use Rattle.blink_base.specs.declared.value.Value.{Value}
 use Rattle.blink_base.specs.declared.schema.Schema.{Schema}
@@ -66,7 +66,7 @@ created tables name columns = unless (first_of (create_refusals tables name colu
 -- DROP of the table that a name has
 abbrev pub drop_found : Tables → List ℕ → Option AcceptedTable → Result Tables Refusal
 drop_found tables name None = Err (refusal.UnknownTable name)
-drop_found tables name (Some held) = Ok (without_table tables name)
+drop_found tables name (Some accepted) = Ok (without_table tables name)
 
 -- DROP: the tables without that one
 abbrev pub dropped : Tables → List ℕ → Result Tables Refusal
@@ -88,7 +88,7 @@ if_many limits rows = when (nat_lt limits.rows rows) refusal.TooManyRows
 
 -- a batch behind a table's rows: the number of rows, then the keys
 abbrev pub add_refusals : Limits → AcceptedTable → List Row → List Refusal
-add_refusals limits held rows = if_many limits (length held.rows + length rows) ++ if_repeated held.image.schema.key held.rows rows
+add_refusals limits accepted rows = if_many limits (length accepted.rows + length rows) ++ if_repeated accepted.image.schema.key accepted.rows rows
 
 -- the image with a batch: all laid out anew, or the batch added to the standing layout
 abbrev pub image_with : Growth → TableImage → List Row → TableImage
@@ -97,17 +97,17 @@ image_with Standing image rows = grown image rows
 
 -- the table with a batch behind its rows
 abbrev pub added_to : Growth → AcceptedTable → List Row → AcceptedTable
-added_to growth held rows = record { name = held.name; rows = held.rows ++ rows; image = image_with growth held.image rows }
+added_to growth accepted rows = record { name = accepted.name; rows = accepted.rows ++ rows; image = image_with growth accepted.image rows }
 
 -- the tables with a batch in one of them, and the number of its rows
 abbrev pub add_rows : Limits → Growth → Tables → AcceptedTable → Result (List Row) Refusal → Result (Tables × ℕ) Refusal
-add_rows limits growth tables held (Err why) = Err why
-add_rows limits growth tables held (Ok rows) = unless (first_of (add_refusals limits held rows)) (with_table tables (added_to growth held rows), length rows)
+add_rows limits growth tables accepted (Err why) = Err why
+add_rows limits growth tables accepted (Ok rows) = unless (first_of (add_refusals limits accepted rows)) (with_table tables (added_to growth accepted rows), length rows)
 
 -- a batch for the table that a name has
 abbrev pub add_found : Limits → Growth → Tables → List ℕ → (Schema → Result (List Row) Refusal) → Option AcceptedTable → Result (Tables × ℕ) Refusal
 add_found limits growth tables name batch None = Err (refusal.UnknownTable name)
-add_found limits growth tables name batch (Some held) = add_rows limits growth tables held (batch held.image.schema)
+add_found limits growth tables name batch (Some accepted) = add_rows limits growth tables accepted (batch accepted.image.schema)
 
 -- LOAD adds rows and lays all out anew; APPEND and INSERT add them to the standing layout: the table first, then the batch, then what is refused of it
 abbrev pub added : Limits → Growth → Tables → List ℕ → (Schema → Result (List Row) Refusal) → Result (Tables × ℕ) Refusal
@@ -116,7 +116,7 @@ added limits growth tables name batch = add_found limits growth tables name batc
 -- REORGANIZE of the table that a name has
 abbrev pub reorganize_found : Tables → List ℕ → Option AcceptedTable → Result Tables Refusal
 reorganize_found tables name None = Err (refusal.UnknownTable name)
-reorganize_found tables name (Some held) = Ok (with_table tables (record { name = held.name; rows = held.rows; image = laid held.image.schema (rows_of held.image) }))
+reorganize_found tables name (Some accepted) = Ok (with_table tables (record { name = accepted.name; rows = accepted.rows; image = laid accepted.image.schema (rows_of accepted.image) }))
 
 -- REORGANIZE: the same rows, those of the image laid out anew
 abbrev pub reorganized : Tables → List ℕ → Result Tables Refusal

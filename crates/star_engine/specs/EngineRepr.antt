@@ -15,7 +15,7 @@ table_of h = record { name = h.name; image = h.image }
 
 -- the engine keeps these tables, and they are sound
 pub record IsEngineOf {M : Type 0} (tables : Tables) (engine : Engine M) : Type 0 where
-  pub held : engine.tables ≡ map table_of tables
+  pub accepted : engine.tables ≡ map table_of tables
   pub limits : AreLimits engine.limits
   pub sound : IsSound engine.limits tables
 

@@ -1,11 +1,9 @@
 -- Worked steps, as facts that compute. Source: this project's own.
-use Rattle.std.specs.Prelude.{◌≡◌, ℕ, pos, List, [], ◌∷◌, true, false, codes, Option, None, Some, Ok, Err, refl}
+use Rattle.std.specs.Prelude.{◌≡◌, [], ◌∷◌, true, codes, None, Ok, Err, refl}
 use Rattle.std.specs.Fmt.{digits}
 use Rattle.blink_base.specs.declared.limits.Limits.{Limits}
 use Rattle.blink_base.specs.declared.refusal.Refusal.TheVariants as refusal
 use Rattle.blink_base.specs.declared.value.Kind.TheVariants as kind
-use Rattle.star_sql.specs.declared.ast.ColumnDef.{ColumnDef}
-use Rattle.star_sql.specs.declared.ast.Literal.TheVariants as literal
 use Rattle.star_sql.specs.declared.ast.Statement.TheVariants as statement
 use Rattle.star_engine.specs.State.{State}
 use Rattle.star_engine.specs.Changes.{new_table}

@@ -1,5 +1,5 @@
 -- What holds of the tables before and after every call. Source: this project's own.
-use Rattle.std.specs.Prelude.{◌≤◌, ℕ, map, length, IsTrue, All}
+use Rattle.std.specs.Prelude.{◌≤◌, map, length, IsTrue, All}
 use Rattle.std.specs.Str.{bytes_eq}
 use Rattle.blink_base.specs.declared.limits.Limits.{Limits}
 use Rattle.blink_lists.specs.Lists.{are_distinct}
@@ -16,10 +16,10 @@ pub record AreLimits (limits : Limits) : Type 0 where
   pub blocks : limits.blocks ≤ MOST_BLOCKS
 
 -- a table: its image is valid, has no more rows than it may, and stands for the accepted rows in whatever order
-pub record IsSoundTable (limits : Limits) (held : AcceptedTable) : Type 0 where
-  pub valid : IsTrue (is_valid held.image)
-  pub few : row_count held.image ≤ limits.rows
-  pub rows : Rearranged held.rows (rows_of held.image)
+pub record IsSoundTable (limits : Limits) (accepted : AcceptedTable) : Type 0 where
+  pub valid : IsTrue (is_valid accepted.image)
+  pub few : row_count accepted.image ≤ limits.rows
+  pub rows : Rearranged accepted.rows (rows_of accepted.image)
 
 -- the tables: names are distinct, there are at most 64, and each is sound
 pub record IsSound (limits : Limits) (tables : Tables) : Type 0 where

@@ -33,7 +33,7 @@ has_table tables name = is_some (find_table tables name)
 
 -- the tables with one in place of that of its name
 abbrev pub with_table : Tables → AcceptedTable → Tables
-with_table tables held = map (λ h. if bytes_eq held.name h.name then held else h) tables
+with_table tables accepted = map (λ h. if bytes_eq accepted.name h.name then accepted else h) tables
 
 -- the tables without that of a name
 abbrev pub without_table : Tables → List ℕ → Tables
@@ -41,4 +41,4 @@ without_table tables name = filter (λ h. not (bytes_eq name h.name)) tables
 
 -- the tables with one more behind them
 abbrev pub and_table : Tables → AcceptedTable → Tables
-and_table tables held = tables ++ held ∷ []
+and_table tables accepted = tables ++ accepted ∷ []

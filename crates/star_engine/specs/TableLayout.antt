@@ -52,7 +52,7 @@ layout_of name image = record {
 -- DESCRIBE of the table that a name has
 abbrev pub described_found : List ℕ → Option AcceptedTable → Result LayoutLines Refusal
 described_found name None = Err (refusal.UnknownTable name)
-described_found name (Some held) = Ok (layout_of held.name held.image)
+described_found name (Some accepted) = Ok (layout_of accepted.name accepted.image)
 
 -- DESCRIBE: the layout of the table, or that there is none
 abbrev pub described : Tables → List ℕ → Result LayoutLines Refusal

@@ -105,7 +105,7 @@ impl<M: Ledger> Engine<M> {
     /// The first table of this name; None without one. It takes no memory. Source: this project's own.
     pub fn find(&self, name: &str) -> Option<&Table<M>>
         ensures first { option_copied result ≡ find (λ table. bytes_eq name.now table.name) self.now.tables }
-        ensures held { (tables : Tables) → IsEngineOf tables self.now → option_copied result ≡ option_map table_of (find_table tables name.now) }
+        ensures accepted { (tables : Tables) → IsEngineOf tables self.now → option_copied result ≡ option_map table_of (find_table tables name.now) }
     {
         let at = place_of(self.tables.as_slice(), name)?;
         self.tables.get(at)
@@ -218,7 +218,7 @@ impl<M: Ledger> Engine<M> {
     ///
     /// It is refused with [`Refusal::UnknownTable`] exactly where there is no table of this name; else with
     /// [`Refusal::BadHeader`], [`Refusal::Arity`] or [`Refusal::BadValue`] exactly where `blink_loader::load` answers that
-    /// fault; else with [`Refusal::TooManyRows`] exactly where the rows held and those of the text are more than the limit;
+    /// fault; else with [`Refusal::TooManyRows`] exactly where the rows accepted and those of the text are more than the limit;
     /// and else with [`Refusal::DuplicateKey`] exactly where the key of a row stands before it in the table or the text, with
     /// the first such row. [`EngineError::Memory`] comes where there isn't enough memory. After any error all is as it was.
     /// Source: ISO/IEC 9075 (INSERT, primary keys) and RFC 4180; layouts, the limit and the order of refusals are this

@@ -1,5 +1,4 @@
-use Rattle.std.proofs.Common.{◌≡◌, ◌<◌, get_or, length, ap, sym, ◌∙◌, arith}
-use Rattle.blink_base.specs.declared.schema.Column.{Column}
+use Rattle.std.proofs.Common.{◌≡◌, get_or, length, ap, ◌∙◌, arith}
 use Rattle.star_engine.proofs.TableLayoutLemmas.{columns_more, columns_all}
 use Rattle.star_engine.proofs.describe.column_lines.Goals as goal
 

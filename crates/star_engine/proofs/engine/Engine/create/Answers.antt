@@ -1,4 +1,4 @@
-use Rattle.std.proofs.Common.{◌∙◌, [], ◌∷◌, ◌++◌, sym, ap, true, false, is_some, arith}
+use Rattle.std.proofs.Common.{◌∙◌, [], ◌∷◌, ◌++◌, sym, ap, true, false, is_some}
 use Rattle.std.proofs.lemmas.Bool.{and_parts, leb-true, leb-false}
 use Rattle.blink_base.specs.declared.refusal.Refusal.TheVariants as refusal
 use Rattle.blink_base.specs.Identifiers.{is_name}

@@ -12,12 +12,12 @@ returns-in_err-at-clause-first g c =
     let missing : position (called name) ts ≡ None = ap (position (called name)) (sym c.as_slice.ensures) ∙ sym c.in_err-at.ensures in
     rw c.from_residual.ensures (sym (finds_none (called name) ts (no_place (called name) ts missing)))
 
-pub returns-in_err-at-clause-held : goal.returns-in_err-at-clause-held
-returns-in_err-at-clause-held g c = λ tables of.
+pub returns-in_err-at-clause-accepted : goal.returns-in_err-at-clause-accepted
+returns-in_err-at-clause-accepted g c = λ tables of.
     let name = c.args.name.now in
     let ts = c.args.self.now.tables in
     let missing : position (called name) ts ≡ None = ap (position (called name)) (sym c.as_slice.ensures) ∙ sym c.in_err-at.ensures in
-    rw c.from_residual.ensures (sym (finds_none (called name) ts (no_place (called name) ts missing)) ∙ ap (find (called name)) of.held ∙ find-map table_of (called name) tables)
+    rw c.from_residual.ensures (sym (finds_none (called name) ts (no_place (called name) ts missing)) ∙ ap (find (called name)) of.accepted ∙ find-map table_of (called name) tables)
 
 pub returns-clause-first : goal.returns-clause-first
 returns-clause-first g c =
@@ -27,10 +27,10 @@ returns-clause-first g c =
     let place = place_is (called name) ts c.in_ok-at.at there in
     c.get.ensures.value ∙ ap (slice_get ts) place.0 ∙ sym (find_at (called name) ts)
 
-pub returns-clause-held : goal.returns-clause-held
-returns-clause-held g c = λ tables of.
+pub returns-clause-accepted : goal.returns-clause-accepted
+returns-clause-accepted g c = λ tables of.
     let name = c.args.name.now in
     let ts = c.args.self.now.tables in
     let there : position (called name) ts ≡ Some c.in_ok-at.at = ap (position (called name)) (sym c.as_slice.ensures) ∙ sym c.in_ok-at.ensures in
     let place = place_is (called name) ts c.in_ok-at.at there in
-    c.get.ensures.value ∙ ap (slice_get ts) place.0 ∙ sym (find_at (called name) ts) ∙ ap (find (called name)) of.held ∙ find-map table_of (called name) tables
+    c.get.ensures.value ∙ ap (slice_get ts) place.0 ∙ sym (find_at (called name) ts) ∙ ap (find (called name)) of.accepted ∙ find-map table_of (called name) tables
