@@ -1,5 +1,5 @@
 -- What is fetched of a file, by what the store answers.
-use Rattle.std.proofs.Common.{◌≡◌, ◌∙◌, ◌≤◌, ◌<◌, ℕ, zero, suc, Bool, true, false, List, [], ◌∷◌, length, is_some, nat_le, Option, Some, None, Result, Ok, Err, IfSome, refl, sym, ap, arith}
+use Rattle.std.proofs.Common.{◌≡◌, ◌∙◌, ◌<◌, ℕ, zero, suc, [], ◌∷◌, length, is_some, Option, Some, None, Result, Err, IfSome, refl, sym, ap, arith}
 use Rattle.std.specs.Prelude.{Vec}
 use Rattle.std.specs.declared.alloc.Global.{Global}
 use Rattle.std.specs.FinMap.{get}
@@ -8,10 +8,9 @@ use Rattle.blink_base.specs.declared.refusal.Refusal.{Refusal}
 use Rattle.blink_base.specs.declared.refusal.Refusal.TheVariants as refusal
 use Rattle.blink_edge.specs.Files as store
 use Rattle.blink_edge.specs.Files.{IsFound}
-use Rattle.blink_edge.specs.declared.store.Found.{Found}
 use Rattle.blink_edge.specs.declared.store.Found.TheVariants.{Whole, Absent, Long}
 use Rattle.report_text.specs.Texts.{Bytes}
-use Rattle.star_engine.specs.State.{Files, State}
+use Rattle.star_engine.specs.State.{State}
 use Rattle.star_engine.specs.Step.{fetched, short_enough}
 use Rattle.blink_base.specs.declared.limits.TheConstants.{LONGEST_CSV}
 use Rattle.blink_run.specs.Ends.{AreFiles}

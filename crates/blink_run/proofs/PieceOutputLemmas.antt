@@ -1,5 +1,5 @@
 -- What is answered to a piece, by what it says.
-use Rattle.std.proofs.Common.{◌≡◌, ◌∙◌, Bool, true, false, List, ◌∷◌, [], Option, Some, None, Result, Ok, Err, refl, sym, subst}
+use Rattle.std.proofs.Common.{◌≡◌, Bool, true, false, ◌∷◌, [], Option, Ok, Err, refl, sym}
 use Rattle.blink_base.specs.declared.limits.Limits.{Limits}
 use Rattle.blink_edge.specs.Files as store
 use Rattle.report_text.specs.Texts.{Bytes}
@@ -8,7 +8,7 @@ use Rattle.star_engine.specs.declared.engine.Engine.{Engine}
 use Rattle.star_engine.specs.State.{State}
 use Rattle.star_engine.specs.Step.{step, holding, piece_asks_store}
 use Rattle.blink_run.specs.Ends.{AreFiles}
-use Rattle.blink_run.specs.PiecesRun.{SinkView, Stands, AreStopped}
+use Rattle.blink_run.specs.PiecesRun.{SinkView, AreStopped}
 use Rattle.blink_run.specs.StatementOutput.{IsSaidFrom, IsPiece, IsPieceAnswer, IsAsking}
 use Rattle.blink_run.specs.declared.output.Stop.{Stop}
 use Rattle.blink_run.specs.declared.output.Stop.TheVariants as stop

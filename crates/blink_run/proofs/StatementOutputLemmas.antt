@@ -1,5 +1,5 @@
 -- What is answered to a statement, by what the engine answers.
-use Rattle.std.proofs.Common.{◌≡◌, ◌≢◌, ◌∙◌, ℕ, Bool, true, false, List, is_some, option_map, Option, Some, None, Result, Ok, Err, IfOk, OnErr, IsErrAnd, refl, sym, ap, subst}
+use Rattle.std.proofs.Common.{◌≡◌, ◌∙◌, ℕ, Bool, true, false, List, is_some, option_map, Option, Some, None, Result, Ok, Err, OnErr, IsErrAnd, refl, sym, ap, subst}
 use Rattle.blink_base.specs.declared.limits.Limits.{Limits}
 use Rattle.blink_base.specs.declared.refusal.Refusal.{Refusal}
 use Rattle.blink_base.specs.declared.refusal.Refusal.TheVariants as refusal
@@ -10,16 +10,16 @@ use Rattle.star_sql.specs.declared.ast.Statement.{Statement}
 use Rattle.star_engine.specs.declared.engine.Engine.{Engine}
 use Rattle.star_engine.specs.declared.fault.EngineError.{EngineError}
 use Rattle.star_engine.specs.declared.fault.EngineError.TheVariants as engine_error
-use Rattle.star_engine.specs.Causes.{IsAnswer, IsCause}
+use Rattle.star_engine.specs.Causes.{IsCause}
 use Rattle.star_engine.specs.LoadedRows.{loaded}
 use Rattle.star_engine.specs.State.{AcceptedTable, State, Tables, find_table, has_table}
 use Rattle.star_engine.specs.Changes.{added, add_found}
-use Rattle.star_engine.specs.EngineRepr.{IsEngineOf, IsChange, IsAddition, IsMade, IsMadeWith}
-use Rattle.star_engine.specs.Step.{Outcome, statement_step, holding, refuse, change, addition, description, fetched, batch_of, add_file}
+use Rattle.star_engine.specs.EngineRepr.{IsEngineOf, IsAddition, IsMade}
+use Rattle.star_engine.specs.Step.{statement_step, holding, refuse, change, addition, description, fetched, batch_of, add_file}
 use Rattle.blink_base.specs.declared.limits.TheConstants.{LONGEST_CSV}
 use Rattle.blink_run.specs.Ends.{AreFiles}
 use Rattle.blink_run.specs.Script.{Finds}
-use Rattle.blink_run.specs.StatementOutput.{IsLine, IsRefusal, IsAdditionLine, IsStepped, IsReply, IsReplied, IsReplyFrom, IsFetched, IsStoreFault, IsStoreStop, loads, bytes_in}
+use Rattle.blink_run.specs.StatementOutput.{IsLine, IsRefusal, IsAdditionLine, IsReply, IsReplyFrom, IsStoreFault, IsStoreStop, loads}
 use Rattle.blink_run.specs.declared.output.Stop.{Stop}
 use Rattle.blink_run.specs.declared.output.Stop.TheVariants as stop
 use Rattle.star_engine.specs.declared.growth.Growth.{Growth}

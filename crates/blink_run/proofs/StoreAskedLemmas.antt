@@ -1,7 +1,6 @@
 -- A store that may have been asked.
-use Rattle.std.proofs.Common.{◌≡◌, ◌∙◌, ℕ, Option, refl, arith}
+use Rattle.std.proofs.Common.{◌∙◌, ℕ, Option, refl, arith}
 use Rattle.blink_edge.specs.Files as store
-use Rattle.blink_edge.specs.Causes.{Rose}
 use Rattle.blink_run.specs.Ends.{IsAsked}
 
 module _ {S : Type 0} (files : S → Option store.Files) (faults : S → ℕ) (never_fails : S → Type 0) where

@@ -1,5 +1,5 @@
 -- What a script does, statement by statement. Source: this project's own.
-use Rattle.std.specs.Prelude.{◌≡◌, Bool, true, false, List, [], ◌∷◌, ◌++◌, map, All, Ok, Err}
+use Rattle.std.specs.Prelude.{◌≡◌, Bool, true, false, List, [], ◌∷◌, ◌++◌, map, All, Ok}
 use Rattle.std.specs.List.{list_any}
 use Rattle.blink_base.specs.declared.limits.Limits.{Limits}
 use Rattle.star_lex.specs.Pieces.{piece_texts}

@@ -1,5 +1,5 @@
 -- What is answered to a statement. Source: this project's own.
-use Rattle.std.specs.Prelude.{◌≡◌, ◌<◌, ◌^◌, length, Bool, true, false, List, Option, Some, None, Result, Ok, Err, Vec, ℕ}
+use Rattle.std.specs.Prelude.{◌≡◌, Bool, true, false, List, Option, Some, None, Result, Ok, Err, Vec, ℕ}
 use Rattle.std.specs.declared.alloc.Global.{Global}
 use Rattle.blink_base.specs.declared.limits.Limits.{Limits}
 use Rattle.blink_base.specs.declared.refusal.Refusal.{Refusal}
@@ -8,7 +8,6 @@ use Rattle.report_text.specs.Texts.{Bytes, refusal_bytes, added_bytes}
 use Rattle.star_sql.specs.declared.ast.Statement.{Statement}
 use Rattle.star_sql.specs.declared.ast.Statement.TheVariants as statement
 use Rattle.star_sql.specs.PieceStatement.{Said, Says, is_passed_over}
-use Rattle.star_sql.specs.Spelling.{spell}
 use Rattle.star_engine.specs.declared.engine.Engine.{Engine}
 use Rattle.star_engine.specs.declared.fault.EngineError.{EngineError}
 use Rattle.star_engine.specs.declared.fault.EngineError.TheVariants as engine_error

@@ -36,7 +36,7 @@ returns-in-Err-clause-reply g c state of are =
     let same = finds_tables (is_some told_files) state found got.finds in
     let P : Tables → Type 0 = λ ts. IsEngineOf ts c.args.engine.now in
     let here : IsEngineOf found.tables c.args.engine.now = subst P (sym same) of in
-    let looked = rw c.as_str.ensures at (c.find.ensures.held state.tables of) in
+    let looked = rw c.as_str.ensures at (c.find.ensures.accepted state.tables of) in
     let table = there (λ x. x.now) table_of c.find.result state.tables name c.if-is_none.ensures looked in
     let is = ap (λ (ts : Tables). find_table ts name) same ∙ table.is in
     reply_found limits told_files (is_some told_files) state found (loads c.args.growth name file) c.refused.result c.args.engine.now
@@ -46,12 +46,12 @@ returns-in-Err-clause-reply g c state of are =
 
 pub returns-in_err-bytes-clause-unasked : goal.returns-in_err-bytes-clause-unasked
 returns-in_err-bytes-clause-unasked g c state of missing =
-    absurd (not_missing (λ x. x.now) table_of c.find.result state.tables c.args.name.now c.if-is_none.ensures (rw c.as_str.ensures at (c.find.ensures.held state.tables of)) missing)
+    absurd (not_missing (λ x. x.now) table_of c.find.result state.tables c.args.name.now c.if-is_none.ensures (rw c.as_str.ensures at (c.find.ensures.accepted state.tables of)) missing)
 
 pub returns-in-Ok-clause-unasked : goal.returns-in-Ok-clause-unasked
 returns-in-Ok-clause-unasked g c state of missing =
-    absurd (not_missing (λ x. x.now) table_of c.find.result state.tables c.args.name.now c.if-is_none.ensures (rw c.as_str.ensures at (c.find.ensures.held state.tables of)) missing)
+    absurd (not_missing (λ x. x.now) table_of c.find.result state.tables c.args.name.now c.if-is_none.ensures (rw c.as_str.ensures at (c.find.ensures.accepted state.tables of)) missing)
 
 pub returns-in-Err-clause-unasked : goal.returns-in-Err-clause-unasked
 returns-in-Err-clause-unasked g c state of missing =
-    absurd (not_missing (λ x. x.now) table_of c.find.result state.tables c.args.name.now c.if-is_none.ensures (rw c.as_str.ensures at (c.find.ensures.held state.tables of)) missing)
+    absurd (not_missing (λ x. x.now) table_of c.find.result state.tables c.args.name.now c.if-is_none.ensures (rw c.as_str.ensures at (c.find.ensures.accepted state.tables of)) missing)
