@@ -1,9 +1,9 @@
 -- The codes and the rows of cells in memory.
-use Rattle.std.proofs.Common.{◌≡◌, ◌≤◌, ◌<◌, ℕ, zero, suc, ◌+◌, List, [], ◌∷◌, ◌++◌, map, take, length, get_or, nat_lt, sum_by, slice_get, Some, unwrap_or, pos, Result, Ok, Err, IfOk, refl, sym, ap, ◌∙◌, arith}
+use Rattle.std.proofs.Common.{◌≡◌, ◌≤◌, ◌<◌, ℕ, zero, suc, ◌+◌, List, [], ◌∷◌, ◌++◌, map, take, length, get_or, nat_lt, sum_by, slice_get, Some, unwrap_or, pos, Result, Ok, Err, IfOk, All, refl, sym, ap, ◌∙◌, arith}
 use Rattle.std.specs.declared.alloc.AllocError.{AllocError}
 use Rattle.std.specs.List.{list_all, flat_map}
 use Rattle.std.proofs.lemmas.Bool.{and_parts, ltb-true, eqb-true}
-use Rattle.std.proofs.lemmas.List.{get_or-map, get_or_default, take_more, take_all, length-map, append_assoc, length-append}
+use Rattle.std.proofs.lemmas.List.{ext_get_or, get_or_append_left, get_or-map, get_or_default, take_more, take_all, length-map, append_assoc, length-append}
 use Rattle.std.proofs.lemmas.List.Sums.{sum_by-cons, sum_by_more_le}
 use Rattle.std.proofs.lemmas.Option.{slice_get-get_or}
 use Rattle.blink_base.specs.declared.value.Value.{Value}
@@ -28,6 +28,19 @@ row_at columns n i d lt = numbers-at (row_of_codes columns) 0 n i d lt ∙ (let 
 
 pub code_of_row : (columns : List (List ℕ × ℕ)) (row column : ℕ) (d : List ℕ × ℕ) → column < length columns → get_or (row_of_codes columns row) column 0 ≡ get_or (get_or columns column d).0 row 0
 code_of_row columns row column d lt = get_or-map (λ (codes : List ℕ × ℕ). get_or codes.0 row 0) columns column d 0 lt
+
+-- a row stands where each column has more codes behind those of its rows
+pub rows_stand : (old new : List (List ℕ × ℕ)) (tail : ℕ → List ℕ) (rows row : ℕ) → length new ≡ length old → All (λ (c : List ℕ × ℕ). length c.0 ≡ rows) old
+    → ((k : ℕ) → k < length old → (get_or new k ([], 0)).0 ≡ (get_or old k ([], 0)).0 ++ tail k) → row < rows → row_of_codes new row ≡ row_of_codes old row
+rows_stand old new tail rows row count full each lt = ext_get_or 0 (row_of_codes new row) (row_of_codes old row)
+    (length-map new (λ (c : List ℕ × ℕ). get_or c.0 row 0) ∙ count ∙ sym (length-map old (λ (c : List ℕ × ℕ). get_or c.0 row 0)))
+    (λ k within.
+    let n = length-map new (λ (c : List ℕ × ℕ). get_or c.0 row 0) in
+    let size = full k ([], 0) (omega arith) in
+    code_of_row new row k ([], 0) (omega arith)
+    ∙ ap (λ l. get_or l row 0) (each k (omega arith))
+    ∙ get_or_append_left (get_or old k ([], 0)).0 (tail k) 0 row (omega arith)
+    ∙ sym (code_of_row old row k ([], 0) (omega arith)))
 
 -- the parts of a cell in memory
 pub record HasCodes (columns : List Classes) (cell : Cell) (row : ℕ) : Type 0 where

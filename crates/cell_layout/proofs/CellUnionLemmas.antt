@@ -12,7 +12,7 @@ use Rattle.cell_layout.specs.Valid.{is_cell, is_row_count, are_codes, most_cell_
 use Rattle.blink_lists.specs.declared.limits.TheConstants.{MOST_ROWS}
 use Rattle.cell_layout.specs.CellRepr.{IsCellRepr, cell_image, row_of_codes, rows_of_codes}
 use Rattle.cell_layout.specs.MergeCells.{HasAppended, IsAbsorbed}
-use Rattle.cell_layout.proofs.CellReprLemmas.{length-rows, row_at}
+use Rattle.cell_layout.proofs.CellReprLemmas.{length-rows, row_at, rows_stand}
 use Rattle.cell_layout.proofs.InsertRowReprLemmas.{row_count}
 
 module _ (old new more : List (List ℕ × ℕ)) (a b : ℕ) (full : All (λ (c : List ℕ × ℕ). length c.0 ≡ a) old) (more_full : All (λ (c : List ℕ × ℕ). length c.0 ≡ b) more) (width : length more ≡ length old) (appended : HasAppended old new more) where
@@ -20,16 +20,7 @@ module _ (old new more : List (List ℕ × ℕ)) (a b : ℕ) (full : All (λ (c 
   none = ([], 0)
 
   row-front : (row : ℕ) → row < a → row_of_codes new row ≡ row_of_codes old row
-  row-front row lt = ext_get_or 0 (row_of_codes new row) (row_of_codes old row)
-      (length-map new (λ (c : List ℕ × ℕ). get_or c.0 row 0) ∙ appended.count ∙ sym (length-map old (λ (c : List ℕ × ℕ). get_or c.0 row 0)))
-      (λ k within.
-      let n = length-map new (λ (c : List ℕ × ℕ). get_or c.0 row 0) in
-      let count = appended.count in
-      let size = full k none (omega arith) in
-      get_or-map (λ (c : List ℕ × ℕ). get_or c.0 row 0) new k none 0 (omega arith)
-      ∙ ap (λ l. get_or l row 0) (appended.each k none (omega arith))
-      ∙ get_or_append_left (get_or old k none).0 (get_or more k none).0 0 row (omega arith)
-      ∙ sym (get_or-map (λ (c : List ℕ × ℕ). get_or c.0 row 0) old k none 0 (omega arith)))
+  row-front row lt = rows_stand old new (λ k. (get_or more k ([], 0)).0) a row appended.count full (λ k within. appended.each k ([], 0) within) lt
 
   row-back : (row : ℕ) → a ≤ row → row_of_codes new row ≡ row_of_codes more (row - a)
   row-back row le = ext_get_or 0 (row_of_codes new row) (row_of_codes more (row - a))

@@ -4,7 +4,7 @@ use Rattle.std.specs.List.{list_all, zip}
 use Rattle.std.specs.declared.cmp.Ordering.TheVariants.{Less, Greater}
 use Rattle.std.proofs.lemmas.Bool.{and_parts, and_from, le-leb, lt-ltb, eq-eqb, cases_order}
 use Rattle.std.proofs.lemmas.Cmp.{nat_list_cmp_total, tied_itself}
-use Rattle.std.proofs.lemmas.List.{ext_get_or, get_or_append_left, get_or-set_same, get_or-set_other, get_or-map, map-set, length-set, length-map, length-append}
+use Rattle.std.proofs.lemmas.List.{ext_get_or, get_or-set_same, get_or-set_other, get_or-map, map-set, length-set, length-map, length-append}
 use Rattle.std.proofs.lemmas.List.Elements.{All-set, All-append, All-cons, All-take, All-drop}
 use Rattle.std.proofs.lemmas.List.Folds.{list_all-append}
 use Rattle.std.proofs.lemmas.List.Sums.{sum_by-set, sum_by-insert, sum_by_more_le}
@@ -24,7 +24,7 @@ use Rattle.cell_layout.specs.InsertRow.{one_row, with_row, put_row, keys_in, Ris
 use Rattle.cell_layout.specs.InsertRowRepr.{IsGrown, IsPushed, IsFirst, IsPut, rows_in_all}
 use Rattle.cell_layout.proofs.InsertRowLemmas.{turned, put-less, put-equal, put-greater}
 use Rattle.cell_layout.proofs.CellIndexLemmas.{rising-from, above-at, empty_cell}
-use Rattle.cell_layout.proofs.CellReprLemmas.{length-rows}
+use Rattle.cell_layout.proofs.CellReprLemmas.{length-rows, rows_stand}
 use Rattle.blink_lists.proofs.SliceLemmas.{map-insert}
 use Rattle.blink_lists.proofs.ZipLemmas.{zip-all, pair-all}
 use Rattle.blink_lists.proofs.NumberLemmas.{numbers-push, same-numbers}
@@ -55,16 +55,7 @@ module _ (old new : List (List ℕ × ℕ)) (codes : List ℕ) (rows : ℕ) (ful
   none = ([], 0)
 
   row-old : (row : ℕ) → row < rows → row_of_codes new row ≡ row_of_codes old row
-  row-old row lt = ext_get_or 0 (row_of_codes new row) (row_of_codes old row)
-      (length-map new (λ (c : List ℕ × ℕ). get_or c.0 row 0) ∙ pushed.count ∙ sym (length-map old (λ (c : List ℕ × ℕ). get_or c.0 row 0)))
-      (λ k within.
-      let n = length-map new (λ (c : List ℕ × ℕ). get_or c.0 row 0) in
-      let count = pushed.count in
-      let size = full k none (omega arith) in
-      get_or-map (λ (c : List ℕ × ℕ). get_or c.0 row 0) new k none 0 (omega arith)
-      ∙ ap (λ l. get_or l row 0) (pushed.each k none (omega arith))
-      ∙ get_or_append_left (get_or old k none).0 (get_or codes k 0 ∷ []) 0 row (omega arith)
-      ∙ sym (get_or-map (λ (c : List ℕ × ℕ). get_or c.0 row 0) old k none 0 (omega arith)))
+  row-old row lt = rows_stand old new (λ k. get_or codes k 0 ∷ []) rows row pushed.count full (λ k within. pushed.each k ([], 0) within) lt
 
   row-new : row_of_codes new rows ≡ codes
   row-new = ext_get_or 0 (row_of_codes new rows) codes
