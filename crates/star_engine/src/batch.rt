@@ -6,7 +6,7 @@ ghost use Rattle.star_engine.specs.Causes.{IsAnswer};
 ghost use Rattle.star_engine.specs.LoadedRows.{loaded, batch_in, IsGood};
 
 use crate::EngineError;
-use crate::written::written_rows;
+use crate::inserted_rows::written_rows;
 use blink_base::{List, Row, Schema};
 use blink_loader::load;
 use star_sql::Literal;

@@ -12,8 +12,8 @@ mod engine;
 pub mod examples;
 mod fault;
 mod growth;
+mod inserted_rows;
 mod table;
-mod written;
 
 pub use engine::Engine;
 pub use fault::EngineError;

@@ -2,7 +2,7 @@ use Rattle.std.proofs.Common.{◌∙◌, ap}
 use Rattle.blink_base.specs.Dates.{date_of}
 use Rattle.blink_base.specs.ReadValue.{date_or_fault}
 use Rattle.star_engine.proofs.LiteralLemmas.{date_told, entry_told}
-use Rattle.star_engine.proofs.written.date_value.Goals as goal
+use Rattle.star_engine.proofs.inserted_rows.date_value.Goals as goal
 
 pub returns-clause-value : goal.returns-clause-value
 returns-clause-value c =

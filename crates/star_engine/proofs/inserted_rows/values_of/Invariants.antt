@@ -3,7 +3,7 @@ use Rattle.std.specs.List.{list_all, zip}
 use Rattle.blink_base.specs.RowFits.{is_entry}
 use Rattle.star_engine.specs.InsertedRows.{written_values}
 use Rattle.blink_lists.proofs.FirstFaultLemmas.{behind}
-use Rattle.star_engine.proofs.written.values_of.Given as goal
+use Rattle.star_engine.proofs.inserted_rows.values_of.Given as goal
 
 abbrev pub invariant-loop-place : goal.invariant-loop-place
 invariant-loop-place l = record {

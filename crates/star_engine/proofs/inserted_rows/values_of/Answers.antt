@@ -3,7 +3,7 @@ use Rattle.star_engine.proofs.InsertedRowsLemmas.{value_written, value_refused, 
 use Rattle.blink_lists.proofs.FirstFaultLemmas.{behind_none}
 use Rattle.blink_base.specs.RowFits.{is_entry}
 use Rattle.blink_lists.proofs.ZipLemmas.{all-zip-none, all-zip-push}
-use Rattle.star_engine.proofs.written.values_of.Goals as goal
+use Rattle.star_engine.proofs.inserted_rows.values_of.Goals as goal
 
 pub loop-place-init : goal.loop-place-init
 loop-place-init c = rw c.in_ok-values.ensures.items (record { made = sym (behind_none _); long = refl; entries = all-zip-none (λ p. is_entry p.0.kind p.1) c.args.columns.now })

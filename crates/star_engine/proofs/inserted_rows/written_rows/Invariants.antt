@@ -3,7 +3,7 @@ use Rattle.std.specs.List.{list_all}
 use Rattle.blink_base.specs.RowFits.{fits}
 use Rattle.star_engine.specs.InsertedRows.{written_from}
 use Rattle.blink_lists.proofs.FirstFaultLemmas.{behind}
-use Rattle.star_engine.proofs.written.written_rows.Given as goal
+use Rattle.star_engine.proofs.inserted_rows.written_rows.Given as goal
 
 abbrev pub invariant-loop-place : goal.invariant-loop-place
 invariant-loop-place l = record {
