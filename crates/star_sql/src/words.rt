@@ -1,6 +1,7 @@
 // Which words are names, and which words are kinds.
 ghost use Rattle.std.specs.Prelude.{◌≡◌, not};
-ghost use Rattle.std.specs.List.{list_all};
+ghost use Rattle.std.specs.List.{list_all, list_any};
+ghost use Rattle.std.specs.Str.{bytes_eq};
 ghost use Rattle.std.specs.Char.{is_ascii_uppercase};
 ghost use Rattle.blink_base.specs.Identifiers.{is_name_byte, is_kept_word, is_reserved, is_name};
 ghost use Rattle.star_sql.specs.Parsers.{kind_of_word};
@@ -34,27 +35,27 @@ fn is_kept_word(bytes: &[u8]) -> bool
     }
 }
 
+// The words that have a meaning of their own wherever they stand.
+const RESERVED: [&str; 18] = [
+    "and", "as", "asc", "between", "by", "desc", "from", "group", "in", "is", "like", "limit",
+    "not", "null", "or", "order", "select", "where",
+];
+
+fn is_among(word: &str, words: &[&str]) -> bool
+    ensures { result ≡ list_any (λ w. bytes_eq word.now w.now) words.now }
+{
+    for other in words {
+        if word == *other {
+            return true;
+        }
+    }
+    false
+}
+
 fn is_reserved(word: &str) -> bool
     ensures { result ≡ is_reserved word.now }
 {
-    word == "and"
-        || word == "as"
-        || word == "asc"
-        || word == "between"
-        || word == "by"
-        || word == "desc"
-        || word == "from"
-        || word == "group"
-        || word == "in"
-        || word == "is"
-        || word == "like"
-        || word == "limit"
-        || word == "not"
-        || word == "null"
-        || word == "or"
-        || word == "order"
-        || word == "select"
-        || word == "where"
+    is_among(word, &RESERVED)
 }
 
 pub(crate) fn is_name(word: &str) -> bool
