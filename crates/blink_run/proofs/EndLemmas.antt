@@ -10,10 +10,10 @@ use Rattle.report_text.specs.Texts.{Bytes}
 use Rattle.blink_run.specs.Program.{Asked, to_run, to_count, nothing_known, Told, status_of}
 use Rattle.blink_run.specs.Ends.{StreamView, Outside, AreFiles, AsksNothing, ReadsInput, IsReadWhole, IsRead, Gives, AskedGiven, Ends, IsComplete, IsAnswerOrMemory}
 use Rattle.blink_run.specs.Request.{asked_of}
-use Rattle.blink_run.specs.declared.args.Request.{Request}
-use Rattle.blink_run.specs.declared.args.Request.TheVariants.{Run, Count, Unknown}
-use Rattle.blink_run.specs.declared.status.Status.{Status}
-use Rattle.blink_run.specs.declared.status.Status.TheVariants as status
+use Rattle.blink_run.specs.declared.arguments.Request.{Request}
+use Rattle.blink_run.specs.declared.arguments.Request.TheVariants.{Run, Count, Unknown}
+use Rattle.blink_run.specs.declared.top_call.status.Status.{Status}
+use Rattle.blink_run.specs.declared.top_call.status.Status.TheVariants as status
 
 -- the files that a store tells, and none where it tells nothing
 abbrev pub files_in : Option store.Files → Files

@@ -17,8 +17,8 @@ use Rattle.blink_run.specs.Ends.{StreamView, AllGiven, Gives, PartGiven, FirstGi
 use Rattle.blink_run.specs.StatementOutput.{IsStoreFault}
 use Rattle.blink_run.specs.declared.output.Stop.{Stop}
 use Rattle.blink_run.specs.declared.output.Stop.TheVariants as stop
-use Rattle.blink_run.specs.declared.status.Status.{Status}
-use Rattle.blink_run.specs.declared.status.Status.TheVariants as status
+use Rattle.blink_run.specs.declared.top_call.status.Status.{Status}
+use Rattle.blink_run.specs.declared.top_call.status.Status.TheVariants as status
 use Rattle.blink_run.proofs.PiecesRunLemmas.{printed-append}
 use Rattle.blink_run.proofs.OutcomeLemmas.{goes_on}
 

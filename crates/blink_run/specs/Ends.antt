@@ -11,8 +11,8 @@ use Rattle.star_engine.specs.State.{Files}
 use Rattle.star_engine.specs.Step.{Outcome}
 use Rattle.blink_run.specs.Script.{ScriptBegins, ScriptAsks, ScriptNeverAsks, outputs_of}
 use Rattle.blink_run.specs.Program.{Asked, to_run, to_count, nothing_known, Told, Tells, count_told, status_of}
-use Rattle.blink_run.specs.declared.status.Status.{Status}
-use Rattle.blink_run.specs.declared.status.Status.TheVariants as status
+use Rattle.blink_run.specs.declared.top_call.status.Status.{Status}
+use Rattle.blink_run.specs.declared.top_call.status.Status.TheVariants as status
 
 -- what a source or a sink shows: its bytes, where it tells them, and its count of faults
 pub record StreamView : Type 0 where

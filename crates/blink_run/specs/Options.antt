@@ -6,7 +6,7 @@ use Rattle.blink_base.specs.ReadValue.{whole_number}
 use Rattle.blink_base.specs.declared.limits.TheConstants.{MOST_BLOCKS}
 use Rattle.blink_lists.specs.declared.limits.TheConstants.{MOST_ROWS}
 use Rattle.report_text.specs.Texts.{Bytes}
-use Rattle.blink_run.specs.declared.options.TheConstants.{MOST_OPTION_DIGITS}
+use Rattle.blink_run.specs.declared.arguments.options.TheConstants.{MOST_OPTION_DIGITS}
 
 -- how many rows a table may have, and how many blocks all tables, where the arguments don't say it
 abbrev pub standard_limits : Limits

@@ -13,8 +13,8 @@ use Rattle.star_engine.specs.EngineRepr.{IsEngineOf}
 use Rattle.star_engine.specs.Step.{Outcome, step}
 use Rattle.blink_run.specs.Ends.{AreFiles}
 use Rattle.blink_run.specs.Script.{Runs, Begins, Asks, Finds, outputs_of, is_any_refused, left_by}
-use Rattle.blink_run.specs.declared.status.Status.{Status}
-use Rattle.blink_run.specs.declared.status.Status.TheVariants as status
+use Rattle.blink_run.specs.declared.top_call.status.Status.{Status}
+use Rattle.blink_run.specs.declared.top_call.status.Status.TheVariants as status
 use Rattle.blink_run.specs.declared.output.Stop.{Stop}
 use Rattle.blink_run.specs.declared.output.Stop.TheVariants as stop
 

@@ -12,8 +12,8 @@ use Rattle.star_engine.specs.State.{Files}
 use Rattle.star_engine.specs.Step.{Outcome}
 use Rattle.blink_run.specs.Options.{limits_of}
 use Rattle.blink_run.specs.Script.{ScriptRuns, outputs_of, is_any_refused}
-use Rattle.blink_run.specs.declared.status.Status.{Status}
-use Rattle.blink_run.specs.declared.status.Status.TheVariants as status
+use Rattle.blink_run.specs.declared.top_call.status.Status.{Status}
+use Rattle.blink_run.specs.declared.top_call.status.Status.TheVariants as status
 
 -- what the arguments ask for: a script under limits, the count of a column between two whole numbers, or nothing that is known
 pub data Asked : Type 0 where

@@ -1,7 +1,7 @@
 -- What a request of the program asks for. Source: this project's own.
 use Rattle.star_engine.specs.Soundness.{AreLimits}
-use Rattle.blink_run.specs.declared.args.Request.{Request}
-use Rattle.blink_run.specs.declared.args.Request.TheVariants.{Run, Count, Unknown}
+use Rattle.blink_run.specs.declared.arguments.Request.{Request}
+use Rattle.blink_run.specs.declared.arguments.Request.TheVariants.{Run, Count, Unknown}
 use Rattle.blink_run.specs.Program.{Asked, to_run, to_count, nothing_known}
 
 abbrev pub asked_of : Request → Asked

@@ -12,7 +12,7 @@ use Rattle.star_engine.specs.declared.engine.Engine.{Engine}
 use Rattle.star_engine.specs.declared.fault.EngineError.{EngineError}
 use Rattle.star_engine.specs.declared.fault.EngineError.TheVariants as engine_error
 use Rattle.star_engine.specs.State.{State, Tables}
-use Rattle.star_engine.specs.EngineRepr.{IsEngineOf}
+use Rattle.star_engine.specs.EngineRepr.{HasTables, IsEngineOf}
 use Rattle.star_engine.specs.Step.{statement_step, holding, asks_store, piece_asks_store, fetched}
 use Rattle.blink_base.specs.declared.limits.TheConstants.{LONGEST_CSV}
 use Rattle.blink_run.specs.Ends.{AreFiles}
@@ -49,6 +49,11 @@ IsRefusal engine_error.Memory result = result ≡ Err stop.Memory
 abbrev pub IsAdditionLine : Result ℕ EngineError → Result Output Stop → Type 0
 IsAdditionLine (Ok count) result = IsLine (added_bytes count) false result
 IsAdditionLine (Err why) result = IsRefusal why result
+
+-- an engine behind a statement: its tables are sound, under the limits from before
+pub record StaysSound {M : Type 0} (old new : Engine M) : Type 0 where
+  pub sound : HasTables new
+  pub limits : new.limits ≡ old.limits
 
 -- a statement's step from a state: its line, whether it is refused, and the engine keeps the tables that it leaves
 pub record IsStepped {M : Type 0} (limits : Limits) (state : State) (s : Statement) (line : Bytes) (refused : Bool) (engine : Engine M) : Type 0 where

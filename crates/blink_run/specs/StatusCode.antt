@@ -1,7 +1,7 @@
 -- The numbers of the statuses. Source: this project's own.
 use Rattle.std.specs.Prelude.{ℕ}
-use Rattle.blink_run.specs.declared.status.Status.{Status}
-use Rattle.blink_run.specs.declared.status.Status.TheVariants as status
+use Rattle.blink_run.specs.declared.top_call.status.Status.{Status}
+use Rattle.blink_run.specs.declared.top_call.status.Status.TheVariants as status
 
 abbrev pub code_of : Status → ℕ
 code_of status.Done = 0

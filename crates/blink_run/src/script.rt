@@ -9,9 +9,12 @@ ghost use Rattle.blink_run.specs.PiecesRun.{end_of};
 ghost use Rattle.blink_run.specs.Program.{to_run, told_script};
 ghost use Rattle.blink_run.specs.Ends.{AreFiles, AreKnown, Gives, IsAsked, stream_view};
 
+mod piece_text;
+mod pieces;
+
 use crate::Status;
 use crate::output::Stop;
-use crate::pieces::answer_pieces;
+use crate::script::pieces::answer_pieces;
 use blink_base::Limits;
 use blink_edge::{Sink, Store};
 use star_engine::Engine;

@@ -7,13 +7,16 @@ ghost use Rattle.blink_run.specs.Program.{asked_by, nothing_known, Told, Tells};
 ghost use Rattle.blink_run.specs.Ends.{Ends, IsComplete, EndsAtFault, Gives, AreFiles, AreKnown, AsksNothing, IsAsked, NeverAsked, outside, stream_view, store_view};
 ghost use Rattle.blink_run.specs.Request.{asked_of, IsAllowed};
 
-use crate::Status;
-use crate::args::Request;
-use crate::count::answer_count;
+mod count;
+mod status;
+
+use crate::arguments::Request;
 use crate::output::USAGE;
 use crate::script::answer_script;
+use crate::top_call::count::answer_count;
 use blink_base::LONGEST_INPUT;
 use blink_edge::{Failed, ReadError, Sink, Source, Store, Taken, read_all, write_all};
+pub use status::Status;
 use std::alloc::Global;
 use std::marker::Brand;
 use std::sync::ledger::{Blank, Ledger};

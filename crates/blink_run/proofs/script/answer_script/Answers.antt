@@ -2,7 +2,7 @@ use Rattle.std.proofs.Common.{◌≡◌, ◌∙◌, is_some}
 use Rattle.blink_run.specs.Script.{start}
 use Rattle.blink_run.specs.PiecesRun.{sink_view}
 use Rattle.blink_run.specs.StatementOutput.{IsStoreFault}
-use Rattle.blink_run.specs.declared.status.Status.TheVariants as status
+use Rattle.blink_run.specs.declared.top_call.status.Status.TheVariants as status
 use Rattle.blink_run.proofs.PiecesRunLemmas.{all_left}
 use Rattle.blink_run.proofs.EndLemmas.{files_in, are_told}
 use Rattle.blink_run.proofs.ScriptOutputLemmas.{first_given, script_end, store_fault_end, store_fault_ends}

@@ -1,8 +1,8 @@
 use Rattle.std.proofs.Common.{◌≡◌, is_some}
 use Rattle.blink_run.specs.Ends.{stream_view}
 use Rattle.blink_run.specs.Request.{asked_of}
-use Rattle.blink_run.specs.declared.status.Status.TheVariants.{StoreFault}
-use Rattle.blink_run.specs.declared.args.Request.TheVariants.{Count}
+use Rattle.blink_run.specs.declared.top_call.status.Status.TheVariants.{StoreFault}
+use Rattle.blink_run.specs.declared.arguments.Request.TheVariants.{Count}
 use Rattle.blink_run.specs.Program.{nothing_known}
 use Rattle.blink_run.proofs.EndLemmas.{files_in, no_store_fault}
 use Rattle.blink_run.proofs.StoreAskedLemmas.{not_asked}

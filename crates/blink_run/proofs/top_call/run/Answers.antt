@@ -6,7 +6,7 @@ use Rattle.blink_run.specs.Program.{nothing_known}
 use Rattle.blink_run.specs.Request.{asked_of}
 use Rattle.blink_run.proofs.EndLemmas.{files_in, are_told, nothing_read, read_whole, known_reads, ends_by, complete_by, input_is, no_store_fault}
 use Rattle.blink_run.proofs.StoreAskedLemmas.{not_asked}
-use Rattle.blink_run.specs.declared.status.Status.TheVariants.{Long, ReadFault, Memory, StoreFault}
+use Rattle.blink_run.specs.declared.top_call.status.Status.TheVariants.{Long, ReadFault, Memory, StoreFault}
 use Rattle.blink_run.proofs.top_call.run.Goals as goal
 
 pub returns-in-Unknown-clause-ends : goal.returns-in-Unknown-clause-ends

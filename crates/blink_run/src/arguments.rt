@@ -1,0 +1,83 @@
+// The arguments.
+ghost use Rattle.std.specs.Prelude.{◌≡◌, map, string_bytes};
+ghost use Rattle.blink_base.specs.ReadValue.{whole_number};
+ghost use Rattle.blink_run.specs.Options.{limits_of};
+ghost use Rattle.blink_run.specs.Program.{asked_by, count_asked, count_form, run_asked};
+
+mod options;
+
+use crate::arguments::options::limits_of;
+use blink_base::{Limits, whole_number};
+
+// A column, and the least and the greatest number that count.
+#[derive(Clone, Copy)]
+pub(crate) struct Bounds<'a> {
+    pub(crate) column: &'a str,
+    pub(crate) low: i64,
+    pub(crate) high: i64,
+}
+
+// What the arguments ask for.
+#[derive(Clone, Copy)]
+pub(crate) enum Request<'a> {
+    // The answers to a script.
+    Run(Limits),
+    // How many values of a column lie between two bounds.
+    Count(Bounds<'a>),
+    // The arguments are in no stated form.
+    Unknown,
+}
+
+impl<'a> Request<'a> {
+    ghost use Rattle.blink_run.specs.Request.{asked_of, IsAllowed};
+
+    // The answers to a script, where the options say limits.
+    fn run(options: &'a [String]) -> Request<'a>
+        ensures asked { asked_of result ≡ run_asked (limits_of (map string_bytes options.now)) }
+        ensures allowed { IsAllowed result }
+    {
+        match limits_of(options) {
+            Some(limits) => Request::Run(limits),
+            None => Request::Unknown,
+        }
+    }
+
+    // The count between two bounds, where both are whole numbers.
+    fn count(column: &'a str, low: &str, high: &str) -> Request<'a>
+        ensures asked { asked_of result ≡ count_asked column.now (whole_number low.now) (whole_number high.now) }
+        ensures allowed { IsAllowed result }
+    {
+        match (whole_number(low.as_bytes()), whole_number(high.as_bytes())) {
+            (Some(low), Some(high)) => Request::Count(Bounds { column, low, high }),
+            _ => Request::Unknown,
+        }
+    }
+
+    // The count that the arguments behind `range` ask for.
+    fn range(args: &'a [String]) -> Request<'a>
+        ensures asked { asked_of result ≡ count_form (map string_bytes args.now) }
+        ensures allowed { IsAllowed result }
+    {
+        match args {
+            [column, low, high] => Request::count(column.as_str(), low.as_str(), high.as_str()),
+            _ => Request::Unknown,
+        }
+    }
+
+    // What the arguments ask for. It takes no memory.
+    pub(crate) fn of_args(args: &'a [String]) -> Request<'a>
+        ensures asked { asked_of result ≡ asked_by (map string_bytes args.now) }
+        ensures allowed { IsAllowed result }
+    {
+        let [verb, rest @ ..] = args else {
+            return Request::Unknown;
+        };
+        if verb.as_str() == "run" {
+            Request::run(rest)
+        } else if verb.as_str() == "range" {
+            Request::range(rest)
+        } else {
+            Request::Unknown
+        }
+    }
+}
