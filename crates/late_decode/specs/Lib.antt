@@ -1,0 +1,9 @@
+pub mod BoundLaws
+pub mod Bounds
+pub mod Combinations
+pub mod GroupLines
+pub mod Groups
+pub mod Laws
+pub mod Parts
+pub mod PlannedRows
+pub mod Sums
