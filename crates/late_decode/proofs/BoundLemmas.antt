@@ -18,7 +18,7 @@ use Rattle.late_decode.specs.Bounds.{is_bounded, are_parts, are_groups}
 use Rattle.late_decode.specs.BoundLaws.{AddedAreGroups, AddedAreCoded, RowsAreParts}
 use Rattle.late_decode.proofs.SumLemmas.{abs-add, formulas_bounded, sums_bounded}
 
-sum_bounded : (size a b : ℕ) (x y : ℤ) → nat_le (nat_abs x) (size * a) ≡ true → nat_le (nat_abs y) (size * b) ≡ true → nat_le (nat_abs (x +ℤ y)) (size * (a + b)) ≡ true
+pub sum_bounded : (size a b : ℕ) (x y : ℤ) → nat_le (nat_abs x) (size * a) ≡ true → nat_le (nat_abs y) (size * b) ≡ true → nat_le (nat_abs (x +ℤ y)) (size * (a + b)) ≡ true
 sum_bounded size a b x y h k =
     let f : nat_abs x ≤ size * a = leb-true (nat_abs x) (size * a) h in
     let g : nat_abs y ≤ size * b = leb-true (nat_abs y) (size * b) k in
@@ -56,7 +56,7 @@ none_all : (measures : List Measure) → (length (no_parts measures) ≡ length 
 none_all [] = (refl, refl)
 none_all (m ∷ ms) = let more = none_all ms in (ap suc more.0, and_both (is_bounded no_part) (list_all is_bounded (no_parts ms)) refl more.1)
 
-none_bounded : (measures : List Measure) → are_parts measures (no_parts measures) ≡ true
+pub none_bounded : (measures : List Measure) → are_parts measures (no_parts measures) ≡ true
 none_bounded measures = let all = none_all measures in are_all measures (no_parts measures) all.0 all.1
 
 module _ {K : Type 0} (eq : K → K → Bool) (measures : List Measure) (key : K) (parts : List Part) (good : are_parts measures parts ≡ true) where

@@ -3,7 +3,9 @@ pub mod Bounds
 pub mod Combinations
 pub mod GroupLines
 pub mod Groups
+pub mod KeyHash
 pub mod Laws
+pub mod PartSteps
 pub mod Parts
 pub mod PlannedRows
 pub mod Sums
