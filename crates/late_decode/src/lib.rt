@@ -1,9 +1,11 @@
 //! Groups of values: their parts while they are merged, and the lines that they give.
 #![tactic(auto)]
 
+mod fields;
 mod groups;
 mod key;
 pub mod laws;
+mod order;
 mod parts;
 mod plan;
 
