@@ -5,4 +5,5 @@ pub mod GroupLemmas
 pub mod MergeLemmas
 pub mod PartLemmas
 pub mod RowGroupLemmas
+pub mod SourceLemmas
 pub mod SumLemmas

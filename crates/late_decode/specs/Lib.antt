@@ -5,6 +5,7 @@ pub mod GroupLines
 pub mod Groups
 pub mod KeyHash
 pub mod Laws
+pub mod LineSteps
 pub mod PartSteps
 pub mod Parts
 pub mod PlannedRows

@@ -8,6 +8,7 @@ pub mod laws;
 mod order;
 mod parts;
 mod plan;
+mod source;
 
 pub use groups::Groups;
 pub use plan::{Finish, Formula, GroupPlan, LineOrder, Measure, Part, Pick, Slot};
