@@ -2,6 +2,8 @@ pub mod BoundLemmas
 pub mod CombinationLemmas
 pub mod EntryLemmas
 pub mod GroupLemmas
+pub mod GroupLineLemmas
+pub mod LineStepLemmas
 pub mod MergeLemmas
 pub mod PartLemmas
 pub mod RowGroupLemmas

@@ -1,5 +1,5 @@
 -- Fields of a group, gathered from the last one down.
-use Rattle.std.proofs.Common.{◌≡◌, ◌<◌, ◌+◌, ℕ, zero, suc, List, [], ◌∷◌, ◌++◌, map, reverse, length, slice_index_or, refl, sym, ap, ◌∙◌, append_assoc, length-append, ◌≤◌, arith}
+use Rattle.std.proofs.Common.{◌≡◌, ◌<◌, ◌+◌, ℕ, List, [], ◌∷◌, ◌++◌, map, reverse, length, slice_index_or, refl, sym, ap, ◌∙◌, append_assoc, length-append, ◌≤◌, arith}
 use Rattle.std.proofs.lemmas.List.{map-append, reverse-append}
 use Rattle.blink_base.specs.declared.answer.Field.{Field}
 use Rattle.blink_base.specs.Lines.{field_of}

@@ -1,13 +1,17 @@
 // Groups of values.
-ghost use Rattle.std.specs.Prelude.{◌≡◌, ◌≤◌, ◌+◌, [], OnOk, OnErr, IsTrue};
+ghost use Rattle.std.specs.Prelude.{◌≡◌, ◌≤◌, ◌+◌, [], true, not, IfOk, OnOk, OnErr, IsTrue};
+ghost use Rattle.std.specs.List.{list_any};
+ghost use Rattle.blink_lists.specs.Rearrangement.{Rearranged};
 ghost use Rattle.blink_base.specs.Values.{same_row};
 ghost use Rattle.late_decode.specs.Groups.{added};
-ghost use Rattle.late_decode.specs.Bounds.{most_combinations, are_parts, combinations_in, combinations_of};
+ghost use Rattle.late_decode.specs.Bounds.{most_combinations, are_parts, combinations_in, combinations_of, is_key_slot, slots_within};
+ghost use Rattle.late_decode.specs.GroupLines.{lines_of, or_single};
 
 use crate::key::Key;
+use crate::lines::{group_lines, push_group};
 use crate::parts::{merge_parts, no_parts};
-use crate::{Measure, Part};
-use blink_base::{List, Row};
+use crate::{Finish, Measure, Part};
+use blink_base::{Field, List, Row};
 use indexmap::IndexMap;
 use std::alloc::{AllocError, Global};
 use std::marker::Model;
@@ -74,5 +78,26 @@ impl Groups {
                 Ok(())
             }
         }
+    }
+
+    // The lines of the groups, in some order; with `single` and no group one line over no rows.
+    pub(crate) fn lines(
+        self,
+        alloc: Global,
+        finish: &Finish,
+    ) -> Result<Vec<List<Field>>, AllocError>
+        requires slots { IsTrue (slots_within self.0 finish.now.slots self.1) }
+        requires single { finish.now.single ≡ true → IsTrue (not (list_any is_key_slot finish.now.slots)) }
+        ensures { IfOk result (λ lines. Rearranged lines.items (lines_of self.0 finish.now.slots finish.now.repeat (or_single finish.now.single self.0 self.1))) }
+    {
+        let Groups { measures, groups } = self;
+        let measures = measures.as_slice();
+        if finish.single && groups.is_empty() {
+            let mut lines = Vec::new(alloc);
+            let parts = no_parts(alloc, measures)?;
+            push_group(alloc, &mut lines, measures, finish, List::new(alloc), parts)?;
+            return Ok(lines);
+        }
+        group_lines(alloc, measures, groups, finish)
     }
 }

@@ -2,9 +2,11 @@
 #![tactic(auto)]
 
 mod fields;
+mod finish;
 mod groups;
 mod key;
 pub mod laws;
+mod lines;
 mod order;
 mod parts;
 mod plan;

@@ -48,7 +48,10 @@ fn compare_items(x: &[Field], y: &[Field]) -> Ordering
 {
     let mut left = x;
     let mut right = y;
-    while let (Some((first, left_rest)), Some((second, right_rest))) = (left.split_first(), right.split_first()) {
+    while let (Some((first, left_rest)), Some((second, right_rest))) = (
+        left.split_first(),
+        right.split_first(),
+    ) {
         let by_item = compare_fields(first, second);
         if by_item != Ordering::Equal {
             return by_item;

@@ -47,7 +47,11 @@ fn push_key(all: &mut Vec<Source>, key: Row) -> Result<(), AllocError>
 }
 
 // Adds the fields of measures, the last one first.
-fn push_parts(all: &mut Vec<Source>, measures: &[Measure], parts: List<Part>) -> Result<(), AllocError>
+fn push_parts(
+    all: &mut Vec<Source>,
+    measures: &[Measure],
+    parts: List<Part>,
+) -> Result<(), AllocError>
     requires { length parts ≤ length measures.now }
     ensures { OnOk result (all.new.items ≡ all.old.items ++ reverse (map (λ field. Source.Here field) (measure_fields measures.now parts))) }
 {

@@ -1,4 +1,4 @@
-use Rattle.std.proofs.Common.{arith, ◌≡◌, ◌≤◌, ◌<◌, ◌++◌, [], ◌∷◌, ap, sym, ◌∙◌, length, map, reverse, subst, slice_index_or}
+use Rattle.std.proofs.Common.{arith, ◌≡◌, ◌<◌, ◌++◌, [], ◌∷◌, ap, sym, ◌∙◌, length, map, reverse, slice_index_or}
 use Rattle.std.specs.Option.{option_to_list}
 use Rattle.late_decode.specs.declared.plan.Measure.TheVariants.{Count}
 use Rattle.late_decode.specs.declared.source.Source.TheVariants.{Here}

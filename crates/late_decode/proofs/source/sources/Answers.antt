@@ -1,4 +1,4 @@
-use Rattle.std.proofs.Common.{◌≡◌, ◌++◌, [], ap, ◌∙◌, map, reverse}
+use Rattle.std.proofs.Common.{◌++◌, ap, ◌∙◌, map, reverse}
 use Rattle.blink_base.specs.Lines.{field_of}
 use Rattle.late_decode.specs.declared.source.Source.TheVariants.{Here}
 use Rattle.late_decode.specs.LineSteps.{measure_fields}
