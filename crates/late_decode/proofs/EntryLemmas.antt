@@ -69,7 +69,7 @@ fold_numbers f acc from (suc count) (suc j) lt =
     let e : f (from + suc j) ≡ f (from + 1 + j) = ap f (omega arith) in
     omega (arith, rest, e)
 
-fold_parts : (acc : ℕ) (parts : List Part) (k : ℕ) → (slice_index_or parts k no_part).count ≤ fold max acc (map (λ part. part.count) parts)
+pub fold_parts : (acc : ℕ) (parts : List Part) (k : ℕ) → (slice_index_or parts k no_part).count ≤ fold max acc (map (λ part. part.count) parts)
 fold_parts acc [] k = omega arith
 fold_parts acc (p ∷ ps) zero = let starts = fold_starts (max acc p.count) (map (λ part. part.count) ps) in omega (arith, starts)
 fold_parts acc (p ∷ ps) (suc k) = fold_parts (max acc p.count) ps k
@@ -79,7 +79,7 @@ none_beyond [] k le = refl
 none_beyond (p ∷ ps) zero le = absurd (omega (arith, le))
 none_beyond (p ∷ ps) (suc k) le = none_beyond ps k (omega (arith, le))
 
-none_counted : (measures : List Measure) (k : ℕ) → (slice_index_or (no_parts measures) k no_part).count ≡ 0
+pub none_counted : (measures : List Measure) (k : ℕ) → (slice_index_or (no_parts measures) k no_part).count ≡ 0
 none_counted [] k = refl
 none_counted (m ∷ ms) zero = refl
 none_counted (m ∷ ms) (suc k) = none_counted ms k

@@ -1,3 +1,4 @@
+pub mod AddedLemmas
 pub mod BoundLemmas
 pub mod CombinationLemmas
 pub mod EntryLemmas

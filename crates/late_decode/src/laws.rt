@@ -3,7 +3,7 @@
 ghost use Rattle.late_decode.specs.Laws.{PartsMerge, RowsGroup, SpilledGroup};
 ghost use Rattle.late_decode.specs.Combinations.{CombinationsCounted};
 ghost use Rattle.late_decode.specs.Sums.{SumsBounded, FormulasBounded};
-ghost use Rattle.late_decode.specs.BoundLaws.{AddedAreGroups, AddedAreCoded, RowsAreParts};
+ghost use Rattle.late_decode.specs.BoundLaws.{AddedAreGroups, AddedAreCoded, AddedAreDistinct, SlotsStayWithin, CombinationsAdded, CodedCombinationsAdded, RowsAreParts};
 
 /// The part of some rows and of further rows is that of both, merged. Source: this project's own.
 pub fn parts_merge()
@@ -49,4 +49,24 @@ pub fn added_are_coded()
 /// The parts of one row are bounded, where its numbers have at most fifteen digits. Source: this project's own.
 pub fn rows_are_parts()
     ensures { RowsAreParts }
+{}
+
+/// Groups keep each key once where parts are added. Source: this project's own.
+pub fn added_are_distinct()
+    ensures { AddedAreDistinct }
+{}
+
+/// Slots in range of groups and of a key stay so where parts are added at this key. Source: this project's own.
+pub fn slots_stay_within()
+    ensures { SlotsStayWithin }
+{}
+
+/// Groups by values have no more combinations than before and those of the parts that are added. Source: this project's own.
+pub fn combinations_added()
+    ensures { CombinationsAdded }
+{}
+
+/// Groups by codes have no more combinations than before and those of the parts that are added. Source: this project's own.
+pub fn coded_combinations_added()
+    ensures { CodedCombinationsAdded }
 {}
