@@ -1,0 +1,12 @@
+pub mod AddedLemmas
+pub mod BoundLemmas
+pub mod CombinationLemmas
+pub mod EntryLemmas
+pub mod GroupLemmas
+pub mod GroupLineLemmas
+pub mod LineStepLemmas
+pub mod MergeLemmas
+pub mod PartLemmas
+pub mod RowGroupLemmas
+pub mod SourceLemmas
+pub mod SumLemmas

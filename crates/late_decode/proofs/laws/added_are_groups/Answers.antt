@@ -1,0 +1,5 @@
+use Rattle.late_decode.proofs.BoundLemmas.{added_are_groups as the_law}
+use Rattle.late_decode.proofs.laws.added_are_groups.Goals as goal
+
+pub returns : goal.returns
+returns c = the_law

@@ -1,0 +1,52 @@
+-- Laws of groups that stay within their bounds. Source: this project's own.
+use Rattle.std.specs.Prelude.{◌≡◌, ◌≤◌, ◌+◌, ◌^◌, ℕ, Bool, true, List, [], ◌∷◌, map, nat_abs}
+use Rattle.std.specs.List.{list_all}
+use Rattle.blink_lists.specs.Lists.{are_distinct}
+use Rattle.blink_base.specs.Values.{Row, same_row, number_in}
+use Rattle.late_decode.specs.declared.plan.Measure.{Measure}
+use Rattle.late_decode.specs.declared.plan.Part.{Part}
+use Rattle.late_decode.specs.declared.plan.Pick.{Pick}
+use Rattle.late_decode.specs.declared.plan.Slot.{Slot}
+use Rattle.late_decode.specs.Parts.{Picked, parts_over}
+use Rattle.late_decode.specs.Groups.{Grouped, added}
+use Rattle.late_decode.specs.Bounds.{are_parts, are_groups, combinations_in, combinations_of, slot_within, slots_within}
+
+-- The law that groups by values with one bounded part a measure stay so where bounded parts are added.
+abbrev pub AddedAreGroups : Type 0
+AddedAreGroups =
+    (measures : List Measure) (key : Row) (parts : List Part) (groups : Grouped Row) → are_parts measures parts ≡ true → are_groups measures groups ≡ true
+    → are_groups measures (added same_row measures key parts groups) ≡ true
+
+-- The law that groups by codes stay so, however tuples of codes are compared.
+abbrev pub AddedAreCoded : Type 0
+AddedAreCoded =
+    (same : List ℕ → List ℕ → Bool) (measures : List Measure) (key : List ℕ) (parts : List Part) (groups : Grouped (List ℕ)) → are_parts measures parts ≡ true
+    → are_groups measures groups ≡ true → are_groups measures (added same measures key parts groups) ≡ true
+
+-- The law that groups keep each key once where parts are added.
+abbrev pub AddedAreDistinct : Type 0
+AddedAreDistinct =
+    (measures : List Measure) (key : Row) (parts : List Part) (groups : Grouped Row) → are_distinct same_row (map (λ group. group.0) groups) ≡ true
+    → are_distinct same_row (map (λ group. group.0) (added same_row measures key parts groups)) ≡ true
+
+-- The law that slots in range of groups and of a key stay so where parts are added at this key.
+abbrev pub SlotsStayWithin : Type 0
+SlotsStayWithin =
+    (measures : List Measure) (slots : List Slot) (key : Row) (parts : List Part) (groups : Grouped Row) → list_all (slot_within measures key) slots ≡ true
+    → slots_within measures slots groups ≡ true → slots_within measures slots (added same_row measures key parts groups) ≡ true
+
+-- The law that groups by values have no more combinations than before and those of the parts that are added.
+abbrev pub CombinationsAdded : Type 0
+CombinationsAdded =
+    (measures : List Measure) (key : Row) (parts : List Part) (groups : Grouped Row)
+    → combinations_in measures (added same_row measures key parts groups) ≤ combinations_in measures groups + combinations_of parts
+
+-- The law that the same holds of groups by codes, however tuples of codes are compared.
+abbrev pub CodedCombinationsAdded : Type 0
+CodedCombinationsAdded =
+    (same : List ℕ → List ℕ → Bool) (measures : List Measure) (key : List ℕ) (parts : List Part) (groups : Grouped (List ℕ))
+    → combinations_in measures (added same measures key parts groups) ≤ combinations_in measures groups + combinations_of parts
+
+-- The law that the parts of one row are bounded, where its numbers have at most fifteen digits.
+abbrev pub RowsAreParts : Type 0
+RowsAreParts = (measures : List Measure) (at : Picked) → ((p : Pick) → nat_abs (number_in (at p)) ≤ 10 ^ 15) → are_parts measures (parts_over measures (at ∷ [])) ≡ true

@@ -1,0 +1,12 @@
+pub mod BoundLaws
+pub mod Bounds
+pub mod Combinations
+pub mod GroupLines
+pub mod Groups
+pub mod KeyHash
+pub mod Laws
+pub mod LineSteps
+pub mod PartSteps
+pub mod Parts
+pub mod PlannedRows
+pub mod Sums
