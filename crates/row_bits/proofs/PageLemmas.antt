@@ -64,14 +64,17 @@ module _ (op : Bool → Bool → Bool) where
   zipped_at (x ∷ xs) (y ∷ ys) (suc k) e lt = zipped_at xs ys k (omega (arith, e)) (omega (arith, lt))
 
   -- words joined bit by bit, seen as truth values
-  pub joined_bits : (n : ℕ) (old other new : List ℕ) → ((k : ℕ) → is_set new k ≡ op (is_set old k) (is_set other k)) → bits_of n new ≡ zipped (bits_of n old) (bits_of n other)
-  joined_bits n old other new same =
+  pub joined_below : (n : ℕ) (old other new : List ℕ) → ((k : ℕ) → k < n → is_set new k ≡ op (is_set old k) (is_set other k)) → bits_of n new ≡ zipped (bits_of n old) (bits_of n other)
+  joined_below n old other new same =
       let same_long : length (bits_of n old) ≡ length (bits_of n other) = length_bits n old ∙ sym (length_bits n other) in
       same_bits n new (zipped (bits_of n old) (bits_of n other)) (zipped_long (bits_of n old) (bits_of n other) same_long ∙ length_bits n old)
       (λ k lt.
       let a = bits_at n old k false lt in
       let b = bits_at n other k false lt in
-      same k ∙ (λ i. op (sym a i) (sym b i)) ∙ sym (zipped_at (bits_of n old) (bits_of n other) k same_long (omega (arith, lt, length_bits n old))))
+      same k lt ∙ (λ i. op (sym a i) (sym b i)) ∙ sym (zipped_at (bits_of n old) (bits_of n other) k same_long (omega (arith, lt, length_bits n old))))
+
+  pub joined_bits : (n : ℕ) (old other new : List ℕ) → ((k : ℕ) → is_set new k ≡ op (is_set old k) (is_set other k)) → bits_of n new ≡ zipped (bits_of n old) (bits_of n other)
+  joined_bits n old other new same = joined_below n old other new (λ k lt. same k)
 
 -- what is found among the words is found among the truth values
 module _ (words : List ℕ) (bits : List Bool) (long : length words ≡ 16) (is : bits_of 1024 words ≡ bits) (from : ℕ) where

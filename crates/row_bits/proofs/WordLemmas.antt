@@ -1,5 +1,5 @@
 -- The bits of words by their places.
-use Rattle.std.proofs.Common.{◌≡◌, ℕ, zero, suc, ◌+◌, ◌-◌, ◌*◌, ◌/◌, ◌%◌, ◌^◌, ◌<◌, ◌≤◌, ◌==◌, Bool, true, false, ◌&&◌, ◌||◌, List, ◌∷◌, ◌++◌, map, length, get_or, set, count_by, cond, min, max, bit_and, bit_or, refl, sym, ap, ◌∙◌, arith, inl, inr}
+use Rattle.std.proofs.Common.{◌≡◌, ℕ, zero, suc, ◌+◌, ◌-◌, ◌*◌, ◌/◌, ◌%◌, ◌^◌, ◌<◌, ◌≤◌, ◌==◌, Bool, true, false, ◌&&◌, ◌||◌, List, ◌∷◌, ◌++◌, map, length, get_or, set, count_by, cond, min, max, bit_and, bit_or, refl, sym, ap, ◌∙◌, arith, inl, inr, ◌⊎◌}
 use Rattle.std.specs.Int.{bit_at}
 use Rattle.std.proofs.lemmas.Bool.{eq-eqb, ne_eqb, cases_eq, cases_lt}
 use Rattle.std.proofs.lemmas.List.{get_or_past, get_or-set_same, get_or-set_other}
@@ -187,6 +187,21 @@ joined_all op old other new to none end same before k =
           let b = clear_behind other k (omega (arith, end, behind, same)) in
           before.rest k behind ∙ a ∙ sym none ∙ (λ i. op (sym a i) (sym b i))
     ]
+
+-- as far as both go, where nothing is added behind the other
+pub added_all : (old other new : List ℕ) (to k : ℕ) → length new ≡ length old → (length old ≤ to) ⊎ (length other ≤ to) → Joined (λ a b. a || b) old other new (to * 64) → k < length old * 64
+    → is_set new k ≡ (is_set old k || is_set other k)
+added_all old other new to k same end before lt =
+    elim (cases_lt k (to * 64)) [
+      | inl front ↦ before.joined k front
+      | inr behind ↦
+          let past : length other * 64 ≤ k = elim end [ inl all ↦ absurd (omega (arith, all, behind, lt)) | inr le ↦ omega (arith, le, behind) ] in
+          before.rest k behind ∙ sym (ap (λ b. is_set old k || b) (clear_behind other k past) ∙ or_none (is_set old k))
+    ]
+  where
+    or_none : (b : Bool) → (b || false) ≡ b
+    or_none true = refl
+    or_none false = refl
 
 -- ---- the truth values of places
 

@@ -67,12 +67,11 @@ pub fn and_with(words: &mut [u64], other: &[u64])
     }
 }
 
-/// Adds the places that are set in the other, of one length. It takes no memory. Source: this project's own.
+/// Adds the places that are set in the other, as far as both go. It takes no memory. Source: this project's own.
 pub fn or_with(words: &mut [u64], other: &[u64])
-    requires { length other.now ≡ length words.old }
-    ensures { (k : ℕ) → is_set words.new k ≡ (is_set words.old k || is_set other.now k) }
+    ensures { (k : ℕ) → k < length words.old * 64 → is_set words.new k ≡ (is_set words.old k || is_set other.now k) }
 {
-    for at in 0..words.len() {
+    for at in 0..words.len().min(other.len()) {
         words[at] |= other[at];
     }
 }
