@@ -53,7 +53,10 @@ set_bits size code old new bits view lt inside below above =
           elim (cases_lt k code) [ inl under ↦ below k under ∙ sym same | inr le ↦ above k (omega (arith, le, ne)) ∙ sym same ]
     ])
 
-with_range_at : (low high : ℕ) (bits : List Bool) (k : ℕ) → k < length bits → get_or (with_range low high bits) k false ≡ (get_or bits k false || nat_le low k && nat_lt k high)
+pub length_range : (low high : ℕ) (bits : List Bool) → length (with_range low high bits) ≡ length bits
+length_range low high bits = length-map (numbered bits) (λ (p : ℕ × Bool). p.1 || nat_le low p.0 && nat_lt p.0 high) ∙ length-numbered 0 bits
+
+pub with_range_at : (low high : ℕ) (bits : List Bool) (k : ℕ) → k < length bits → get_or (with_range low high bits) k false ≡ (get_or bits k false || nat_le low k && nat_lt k high)
 with_range_at low high bits k lt =
     let f = λ (p : ℕ × Bool). p.1 || nat_le low p.0 && nat_lt p.0 high in
     get_or-map f (numbered bits) k (0, false) false (omega (arith, lt, length-numbered 0 bits)) ∙ ap f (numbered-at 0 bits k false lt) ∙ ap (λ j. get_or bits k false || nat_le low j && nat_lt j high) (zero-add k)
@@ -63,7 +66,7 @@ pub range_bits : (size low high : ℕ) (old new : List ℕ) (bits : List Bool) �
     → bits_of size new ≡ with_range low high bits
 range_bits size low high old new bits view inside below above =
     let long = size_is size old bits view in
-    same_bits size new (with_range low high bits) (length-map (numbered bits) (λ (p : ℕ × Bool). p.1 || nat_le low p.0 && nat_lt p.0 high) ∙ length-numbered 0 bits ∙ long)
+    same_bits size new (with_range low high bits) (length_range low high bits ∙ long)
     (λ k in_size.
     let here = with_range_at low high bits k (omega (arith, in_size, long)) in
     let was = bit_is size old bits view k in_size in

@@ -13,6 +13,7 @@ use Rattle.page_synopsis.specs.declared.limits.TheConstants.{MOST_RUNS}
 use Rattle.page_synopsis.specs.declared.narrow.Range.{Range}
 use Rattle.page_synopsis.specs.BitSets.{codes_set, codes_set_from, with_range, with_codes, all_below, bits_of_codes}
 use Rattle.page_synopsis.specs.Runs.{runs_of, run_codes, runs_codes, in_both, is_narrow, are_runs}
+use Rattle.page_synopsis.proofs.BitSetLemmas.{length_range, with_range_at}
 use Rattle.page_synopsis.proofs.RunLemmas.{From, set_codes, in_run, expanded, from_runs, are_runs_from, from_are_runs}
 use Rattle.page_synopsis.specs.declared.ranges.Ranges.{Ranges}
 use Rattle.page_synopsis.specs.declared.ranges.Ranges.TheVariants.{Narrow, Wide}
@@ -55,14 +56,6 @@ with_codes_at codes bits k lt =
 
 pub length_with : (codes : List ℕ) (bits : List Bool) → length (with_codes codes bits) ≡ length bits
 length_with codes bits = length-map (numbered bits) (λ (p : ℕ × Bool). p.1 || list_any (λ c. c == p.0) codes) ∙ length-numbered 0 bits
-
-with_range_at : (low high : ℕ) (bits : List Bool) (k : ℕ) → k < length bits → get_or (with_range low high bits) k false ≡ (get_or bits k false || nat_le low k && nat_lt k high)
-with_range_at low high bits k lt =
-    let f = λ (p : ℕ × Bool). p.1 || nat_le low p.0 && nat_lt p.0 high in
-    get_or-map f (numbered bits) k (0, false) false (omega (arith, lt, length-numbered 0 bits)) ∙ ap f (numbered-at 0 bits k false lt) ∙ ap (λ j. get_or bits k false || nat_le low j && nat_lt j high) (zero-add k)
-
-length_range : (low high : ℕ) (bits : List Bool) → length (with_range low high bits) ≡ length bits
-length_range low high bits = length-map (numbered bits) (λ (p : ℕ × Bool). p.1 || nat_le low p.0 && nat_lt p.0 high) ∙ length-numbered 0 bits
 
 or_assoc : (a b c : Bool) → ((a || b) || c) ≡ (a || (b || c))
 or_assoc true b c = refl
