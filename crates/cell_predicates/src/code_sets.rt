@@ -1,10 +1,11 @@
 // The codes of a class whose values make a condition true.
-ghost use Rattle.std.specs.Prelude.{◌≡◌, ◌<◌, IfOk, IsTrue, length, map};
+ghost use Rattle.std.specs.Prelude.{◌≡◌, ◌<◌, IfOk, IfSome, IsTrue, length, map};
 ghost use Rattle.std.specs.List.{list_all, list_any};
 ghost use Rattle.blink_base.specs.RowFits.{is_good};
 ghost use Rattle.blink_base.specs.Tests.{tree_holds};
 ghost use Rattle.order_codes.specs.Dictionary.{class_at, codes_where};
-ghost use Rattle.page_synopsis.specs.Sets.{is_set_of};
+ghost use Rattle.page_synopsis.specs.BitSets.{all_below};
+ghost use Rattle.page_synopsis.specs.Sets.{codes_in, is_set_of};
 
 use crate::leaf_bits::test_bits;
 use blink_base::Tree;
@@ -13,9 +14,9 @@ use page_synopsis::{CodeBits, Ranges};
 use std::alloc::{AllocError, Global};
 use word_pool::Ledger;
 
-/// The codes of a class whose values make the condition true; None exactly where there is none. The class is one of the
-/// dictionary's, and its values are good. No value is decoded. Source: after Raman et al., ICDE 2008 (predicates on
-/// order-preserving codes).
+/// The codes of a class whose values make the condition true, each below the size of the class; None exactly where there
+/// is none. The class is one of the dictionary's, and its values are good. No value is decoded. Source: after Raman et al.,
+/// ICDE 2008 (predicates on order-preserving codes).
 pub fn ranges<M: Ledger>(
     alloc: Global,
     dict: &Dict<M>,
@@ -24,7 +25,8 @@ pub fn ranges<M: Ledger>(
 ) -> Result<Option<Ranges>, AllocError>
     requires class { class < length dict.now }
     requires good { IsTrue (list_all is_good (class_at dict.now class)) }
-    ensures { IfOk result (λ ranges. is_set_of ranges (codes_where (λ v. tree_holds v tree.now) (class_at dict.now class))) }
+    ensures set { IfOk result (λ ranges. is_set_of ranges (codes_where (λ v. tree_holds v tree.now) (class_at dict.now class))) }
+    ensures below { IfOk result (λ ranges. IfSome ranges (λ set. IsTrue (all_below (length (class_at dict.now class)) (codes_in set)))) }
 {
     Ok(Ranges::of(tree_bits(alloc, dict, class, tree)?))
 }

@@ -2,7 +2,7 @@
 use Rattle.std.proofs.Common.{◌≡◌, ℕ, zero, suc, ◌+◌, ◌-◌, ◌<◌, ◌≤◌, ◌==◌, Bool, true, false, ◌&&◌, ◌||◌, List, [], ◌∷◌, ◌++◌, map, filter, take, replicate, length, get_or, set, not, nat_le, nat_lt, refl, sym, ap, subst, ◌∙◌, arith, inl, inr, zero-add}
 use Rattle.std.specs.Bool.{⊤}
 use Rattle.std.specs.List.{list_any}
-use Rattle.std.proofs.lemmas.Bool.{cases_lt, cases_eq, eq-eqb, ne_eqb, ltb-true, le-leb, lt-leb, lt-ltb, le-ltb, and_parts}
+use Rattle.std.proofs.lemmas.Bool.{and_from, cases_lt, cases_eq, eq-eqb, ne_eqb, ltb-true, le-leb, lt-leb, lt-ltb, le-ltb, and_parts}
 use Rattle.std.proofs.lemmas.List.{length-map, get_or-map, ext_get_or, length-replicate, get_or-replicate, length-set, take_more_set, append-nil, append_assoc, length-take-le, length-append}
 use Rattle.std.proofs.lemmas.List.Folds.{list_any-append}
 use Rattle.blink_lists.specs.Lists.{numbered, numbers_from}
@@ -259,3 +259,20 @@ too_many bits ranges from run runs t more =
 pub rising_in : (set : Ranges) → is_fair set ≡ true → Rising 0 (codes_in set)
 rising_in (Narrow runs) fair = rising_runs 0 runs (from_are_runs runs fair)
 rising_in (Wide bits) fair = rising_set 0 bits
+
+-- ---- the codes of bits are below their size
+
+set_codes_below : (size from : ℕ) (bits : List Bool) → from + length bits ≤ size → all_below size (set_codes from bits) ≡ true
+set_codes_below size from [] le = refl
+set_codes_below size from (true ∷ bits) le =
+    and_from (nat_lt from size) (all_below size (set_codes (from + 1) bits)) (lt-ltb from size (omega (arith, le))) (set_codes_below size (from + 1) bits (omega (arith, le)))
+set_codes_below size from (false ∷ bits) le = set_codes_below size (from + 1) bits (omega (arith, le))
+
+pub set_below : (bits : List Bool) → all_below (length bits) (codes_set bits) ≡ true
+set_below bits = set_codes_below (length bits) 0 bits (omega arith)
+
+pub codes_below : (bits : List Bool) (codes : List ℕ) → codes ≡ codes_set bits → all_below (length bits) codes ≡ true
+codes_below bits codes e = ap (all_below (length bits)) e ∙ set_below bits
+
+pub length_both : (size : ℕ) (xs ys : List ℕ) → length (both_true (bits_of_codes size xs) (bits_of_codes size ys)) ≡ size
+length_both size xs ys = ap length (both_numbers (has xs) (has ys) 0 size) ∙ length-numbers (λ k. has xs k && has ys k) 0 size

@@ -1,5 +1,5 @@
 // Sets of codes.
-ghost use Rattle.std.specs.Prelude.{◌≡◌, ◌<◌, ◌==◌, IfOk, IsTrue};
+ghost use Rattle.std.specs.Prelude.{◌≡◌, ◌==◌, IfOk, IfSome, IsTrue, length};
 ghost use Rattle.std.specs.List.{list_any};
 ghost use Rattle.page_synopsis.specs.Runs.{in_both};
 ghost use Rattle.page_synopsis.specs.BitSets.{all_below, bits_of_codes, codes_set};
@@ -17,9 +17,11 @@ pub enum Ranges {
 }
 
 impl Ranges {
-    /// The same set: None exactly for the empty one, Narrow exactly for at most 8 runs. It takes no memory.
+    /// The same set, whose codes are below the size of the bits: None exactly for the empty one, Narrow exactly for at
+    /// most 8 runs. It takes no memory.
     pub fn of(bits: CodeBits) -> Option<Ranges>
-        ensures { is_set_of result (codes_set bits) }
+        ensures set { is_set_of result (codes_set bits) }
+        ensures below { IfSome result (λ set. IsTrue (all_below (length bits) (codes_in set))) }
     {
         let mut ranges = [Range { low: 0, high: 0 }; MOST_RUNS];
         let mut from = 0;
@@ -60,7 +62,8 @@ impl Ranges {
         requires other_fair { IsTrue (is_fair other.now) }
         requires below { IsTrue (all_below size (codes_in self.now)) }
         requires other_below { IsTrue (all_below size (codes_in other.now)) }
-        ensures { IfOk result (λ both. is_set_of both (in_both (codes_in self.now) (codes_in other.now))) }
+        ensures set { IfOk result (λ both. is_set_of both (in_both (codes_in self.now) (codes_in other.now))) }
+        ensures both_below { IfOk result (λ both. IfSome both (λ set. IsTrue (all_below size (codes_in set)))) }
     {
         let mut bits = self.code_bits(alloc, size)?;
         let others = other.code_bits(alloc, size)?;
