@@ -8,7 +8,7 @@ use Rattle.std.proofs.lemmas.Bool.{lt-ltb, le-ltb, le-leb, lt-leb, cases_lt, cas
 use Rattle.std.proofs.lemmas.List.{ext_get_or, length-map, get_or-map, length-replicate, get_or-replicate, length-set, get_or-set_same, get_or-set_other}
 use Rattle.std.proofs.lemmas.List.Folds.{list_any_more, list_all_more}
 use Rattle.blink_lists.specs.Lists.{numbered_from}
-use Rattle.blink_lists.proofs.BoolLemmas.{or-true}
+use Rattle.blink_lists.proofs.BoolLemmas.{and-true, or-true}
 use Rattle.blink_lists.proofs.AllLemmas.{all_at}
 use Rattle.blink_base.specs.declared.value.Value.{Value}
 use Rattle.blink_base.specs.declared.value.Value.TheVariants.{Int, Text, Date}
@@ -18,6 +18,7 @@ use Rattle.blink_base.specs.ValueOrder.{value_total}
 use Rattle.blink_base.specs.RowFits.{is_good}
 use Rattle.blink_base.specs.Tests.{op_holds, begins_with}
 use Rattle.order_codes.specs.Dictionary.{codes_where}
+use Rattle.row_bits.proofs.WordLemmas.{or_none}
 use Rattle.row_bits.specs.Bits.{both_true, some_true}
 use Rattle.page_synopsis.specs.BitSets.{codes_set, with_range}
 use Rattle.page_synopsis.proofs.BitSetLemmas.{length_range, with_range_at}
@@ -57,10 +58,6 @@ ranges_are values test low high first behind same =
 not_below : (low k : ℕ) → nat_le low k ≡ not (nat_lt k low)
 not_below low k = elim (cases_lt k low) [ inl under ↦ lt-leb low k under ∙ sym (ap not (lt-ltb k low under)) | inr le ↦ le-leb low k le ∙ sym (ap not (le-ltb k low le)) ]
 
-and_all : (b : Bool) → (b && true) ≡ b
-and_all true = refl
-and_all false = refl
-
 eq_of : (o : Ordering) → (not (is_lt o) && is_le o) ≡ is_eq o
 eq_of order.Less = refl
 eq_of order.Equal = refl
@@ -95,7 +92,7 @@ module _ (values : List Value) (y : Value) (low high : ℕ) (less : IsCut values
   from_zero k top = ap (λ b. b && nat_lt k top) (le-leb 0 k (omega arith))
 
   to_last : (k first : ℕ) → k < length values → (nat_le first k && nat_lt k (length values)) ≡ not (nat_lt k first)
-  to_last k first lt = (λ i. not_below first k i && lt-ltb k (length values) lt i) ∙ and_all (not (nat_lt k first))
+  to_last k first lt = (λ i. not_below first k i && lt-ltb k (length values) lt i) ∙ and-true (not (nat_lt k first))
 
   pub is_less : with_range 0 low (replicate (length values) false) ≡ map (λ v. op_holds op.Less (value_cmp v y)) values
   is_less = range_is values (λ v. op_holds op.Less (value_cmp v y)) 0 low (λ k d lt. from_zero k low ∙ sym (less.1 k d lt))
@@ -142,10 +139,6 @@ member_more values ys at code e in_ys in_values here =
           get_or-set_other old code k true false ne ∙ get_or-map (λ w. list_any (same_value w) (take at ys)) values k d false lt
           ∙ sym (more ∙ ap (λ b. list_any (same_value v) (take at ys) || b) (here k d lt ∙ ne_eqb k code ne) ∙ or_none (list_any (same_value v) (take at ys)))
     ])
-  where
-    or_none : (b : Bool) → (b || false) ≡ b
-    or_none true = refl
-    or_none false = refl
 
 pub member_less : (values ys : List Value) (at : ℕ) (d : Value) → at < length ys → IsCodeOf values (get_or ys at d) None
     → map (λ v. list_any (same_value v) (take at ys)) values ≡ map (λ v. list_any (same_value v) (take (at + 1) ys)) values
@@ -155,10 +148,6 @@ member_less values ys at e in_ys none =
     let v = get_or values k d in
     get_or-map (λ w. list_any (same_value w) (take at ys)) values k d false lt
     ∙ sym (list_any_more (same_value v) ys at e in_ys ∙ ap (λ b. list_any (same_value v) (take at ys) || b) (none k d lt) ∙ or_none (list_any (same_value v) (take at ys))))
-  where
-    or_none : (b : Bool) → (b || false) ≡ b
-    or_none true = refl
-    or_none false = refl
 
 -- ---- texts with a prefix
 

@@ -1,12 +1,12 @@
 -- Words that keep a bit for each code, and the codes that they have.
-use Rattle.std.proofs.Common.{◌≡◌, ℕ, ◌+◌, ◌-◌, ◌*◌, ◌/◌, ◌^◌, ◌<◌, ◌≤◌, Bool, true, false, ◌&&◌, ◌||◌, List, [], ◌∷◌, ◌++◌, take, drop, replicate, length, get_or, set, nat_le, nat_lt, refl, sym, ap, ◌∙◌, arith, inl, inr, true≢false, zero-add}
+use Rattle.std.proofs.Common.{◌≡◌, ℕ, ◌+◌, ◌-◌, ◌*◌, ◌/◌, ◌^◌, ◌<◌, ◌≤◌, Bool, true, false, ◌&&◌, ◌||◌, List, [], ◌∷◌, ◌++◌, take, drop, replicate, length, get_or, set, nat_le, nat_lt, sym, ap, ◌∙◌, arith, inl, inr, true≢false, zero-add}
 use Rattle.std.proofs.lemmas.Bool.{cases_lt, cases_eq, le-leb, lt-leb, lt-ltb, le-ltb}
 use Rattle.std.proofs.lemmas.List.{drop_all, append-nil, take_all, length-replicate, length-set, length-map, get_or-map, get_or-replicate, get_or-set_same, get_or-set_other, get_or_past}
 use Rattle.blink_lists.specs.Lists.{numbered}
 use Rattle.blink_lists.proofs.BoolLemmas.{or-true}
 use Rattle.blink_lists.proofs.NumberLemmas.{numbered-at, length-numbered}
 use Rattle.row_bits.specs.Bits.{is_set, bits_of}
-use Rattle.row_bits.proofs.WordLemmas.{bits_at, length_bits, clear_behind}
+use Rattle.row_bits.proofs.WordLemmas.{or_none, bits_at, length_bits, clear_behind}
 use Rattle.row_bits.proofs.PageLemmas.{same_bits, zeros_clear}
 use Rattle.page_synopsis.specs.BitSets.{codes_set_from, with_range, AreCodeWords}
 use Rattle.page_synopsis.specs.Runs.{runs_of}
@@ -77,10 +77,6 @@ range_bits size low high old new bits view inside below above =
         | inr past ↦ above k past ∙ sym (here ∙ rw (was, le-leb low k le, le-ltb k high past) (or_none (is_set old k)))
       ]
     ])
-  where
-    or_none : (b : Bool) → (b || false) ≡ b
-    or_none true = refl
-    or_none false = refl
 
 pub added_words : (size : ℕ) (old other new : List ℕ) → AreCodeWords size old → ((k : ℕ) → size ≤ k → is_set other k ≡ false) → length new ≡ length old
     → ((k : ℕ) → k < length old * 64 → is_set new k ≡ (is_set old k || is_set other k)) → AreCodeWords size new

@@ -50,7 +50,7 @@ expanded [] = refl
 expanded (code ∷ codes) = one_more code (runs_of codes) (all_some codes) ∙ ap (λ l. code ∷ l) (expanded codes)
 
 pub runs_are_codes : RunsAreCodes
-runs_are_codes codes r = expanded codes
+runs_are_codes codes = expanded codes
 
 -- ---- runs from a code on, with a gap between each two
 

@@ -8,6 +8,7 @@ use Rattle.std.proofs.lemmas.List.Folds.{list_any-append}
 use Rattle.blink_lists.specs.Lists.{numbered, numbers_from}
 use Rattle.blink_lists.proofs.NumberLemmas.{numbered-at, length-numbered, numbers-at, length-numbers}
 use Rattle.row_bits.specs.Bits.{is_set, bits_of, both_true}
+use Rattle.row_bits.proofs.WordLemmas.{or_none}
 use Rattle.row_bits.proofs.PageLemmas.{same_bits}
 use Rattle.page_synopsis.specs.declared.limits.TheConstants.{MOST_RUNS}
 use Rattle.page_synopsis.specs.declared.narrow.Range.{Range}
@@ -86,10 +87,6 @@ with_run codes run bits le =
 pub with_none : (bits : List Bool) → with_codes [] bits ≡ bits
 with_none bits =
     ext_get_or false (with_codes [] bits) bits (length_with [] bits) (λ k lt. with_codes_at [] bits k (omega (arith, lt, length_with [] bits)) ∙ or_none (get_or bits k false))
-  where
-    or_none : (b : Bool) → (b || false) ≡ b
-    or_none true = refl
-    or_none false = refl
 
 bits_of_codes_at : (size : ℕ) (codes : List ℕ) (k : ℕ) → k < size → get_or (bits_of_codes size codes) k false ≡ list_any (λ c. c == k) codes
 bits_of_codes_at size codes k lt = numbers-at (has codes) 0 size k false lt ∙ ap (has codes) (zero-add k)

@@ -1,7 +1,5 @@
 -- Sets of codes, as a bit per code or as few ranges. Source: this project's own.
 use Rattle.std.specs.Prelude.{◌≡◌, ℕ, Bool, not, List, [], Option, Some, None, IsTrue}
-use Rattle.std.specs.Ordering.{nat_cmp}
-use Rattle.blink_lists.specs.Lists.{rises}
 use Rattle.page_synopsis.specs.BitSets.{codes_set}
 use Rattle.page_synopsis.specs.declared.ranges.Ranges.{Ranges}
 use Rattle.page_synopsis.specs.declared.ranges.Ranges.TheVariants.{Narrow, Wide}
@@ -24,4 +22,4 @@ is_set_of (Some ranges) codes = (codes_in ranges ≡ codes) × IsTrue (is_fair r
 
 -- the runs of a list of codes have these codes and no others
 abbrev pub RunsAreCodes : Type 0
-RunsAreCodes = (codes : List ℕ) → IsTrue (rises nat_cmp codes) → runs_codes (runs_of codes) ≡ codes
+RunsAreCodes = (codes : List ℕ) → runs_codes (runs_of codes) ≡ codes

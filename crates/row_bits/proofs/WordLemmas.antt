@@ -188,6 +188,10 @@ joined_all op old other new to none end same before k =
           before.rest k behind ∙ a ∙ sym none ∙ (λ i. op (sym a i) (sym b i))
     ]
 
+pub or_none : (b : Bool) → (b || false) ≡ b
+or_none true = refl
+or_none false = refl
+
 -- as far as both go, where nothing is added behind the other
 pub added_all : (old other new : List ℕ) (to k : ℕ) → length new ≡ length old → (length old ≤ to) ⊎ (length other ≤ to) → Joined (λ a b. a || b) old other new (to * 64) → k < length old * 64
     → is_set new k ≡ (is_set old k || is_set other k)
@@ -198,10 +202,6 @@ added_all old other new to k same end before lt =
           let past : length other * 64 ≤ k = elim end [ inl all ↦ absurd (omega (arith, all, behind, lt)) | inr le ↦ omega (arith, le, behind) ] in
           before.rest k behind ∙ sym (ap (λ b. is_set old k || b) (clear_behind other k past) ∙ or_none (is_set old k))
     ]
-  where
-    or_none : (b : Bool) → (b || false) ≡ b
-    or_none true = refl
-    or_none false = refl
 
 -- ---- the truth values of places
 
