@@ -1,0 +1,3 @@
+pub mod BitSetLemmas
+pub mod RunLemmas
+pub mod SetLemmas

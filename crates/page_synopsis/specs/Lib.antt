@@ -1,0 +1,4 @@
+pub mod BitSets
+pub mod Examples
+pub mod Runs
+pub mod Sets

@@ -1,0 +1,9 @@
+//! Laws of sets of codes.
+
+ghost use Rattle.page_synopsis.specs.Sets.{RunsAreCodes};
+
+/// The runs of a list of codes have these codes and no others. Source: this project's own.
+#[tactic(auto, using(crate::proofs::RunLemmas::runs_are_codes))]
+pub fn runs_are_codes()
+    ensures { RunsAreCodes }
+{}

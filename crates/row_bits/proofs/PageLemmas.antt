@@ -1,0 +1,95 @@
+-- The truth values of a page.
+use Rattle.std.proofs.Common.{◌≡◌, ℕ, zero, suc, ◌+◌, ◌-◌, ◌*◌, ◌/◌, ◌%◌, ◌<◌, ◌≤◌, Bool, true, false, List, [], ◌∷◌, map, replicate, length, get_or, refl, sym, ap, ◌∙◌, arith, inl, inr, length-append, Option, Some, None, IfSome, IfNone}
+use Rattle.std.specs.List.{zip}
+use Rattle.std.proofs.lemmas.Bool.{cases_lt}
+use Rattle.std.proofs.lemmas.List.{ext_get_or, length-replicate, get_or-replicate, get_or_append_left, get_or-append_right, get_or_past}
+use Rattle.std.proofs.lemmas.Nat.Bits.{bit_at-zero}
+use Rattle.row_bits.specs.Bits.{is_set, bits_of, first_true}
+use Rattle.row_bits.proofs.WordLemmas.{bits_at, length_bits, clear_behind}
+
+-- truth values told place by place
+pub same_bits : (n : ℕ) (words : List ℕ) (bits : List Bool) → length bits ≡ n → ((k : ℕ) → k < n → is_set words k ≡ get_or bits k false) → bits_of n words ≡ bits
+same_bits n words bits long same =
+    ext_get_or false (bits_of n words) bits (length_bits n words ∙ sym long)
+    (λ k lt. let in_n : k < n = omega (arith, lt, length_bits n words) in bits_at n words k false in_n ∙ same k in_n)
+
+-- beyond the last place nothing is true
+pub bits_anywhere : (n : ℕ) (words : List ℕ) (k : ℕ) → length words * 64 ≤ n → get_or (bits_of n words) k false ≡ is_set words k
+bits_anywhere n words k le =
+    elim (cases_lt k n) [
+      | inl lt ↦ bits_at n words k false lt
+      | inr past ↦ get_or_past (bits_of n words) k false (omega (arith, past, length_bits n words)) ∙ sym (clear_behind words k (omega (arith, past, le)))
+    ]
+
+zeros_at : (n k : ℕ) → get_or (replicate n zero) k zero ≡ zero
+zeros_at zero k = refl
+zeros_at (suc n) zero = refl
+zeros_at (suc n) (suc k) = zeros_at n k
+
+pub zeros_clear : (n k : ℕ) → is_set (replicate n 0) k ≡ false
+unfolding is_set
+zeros_clear n k = rw (zeros_at n (k / 64), bit_at-zero (k % 64)) refl
+
+pub none_true : bits_of 1024 (replicate 16 0) ≡ replicate 1024 false
+none_true = same_bits 1024 (replicate 16 0) (replicate 1024 false) (length-replicate 1024 false) (λ k lt. zeros_clear 16 k ∙ sym (get_or-replicate 1024 k false false lt))
+
+replicate_at : (n k : ℕ) → get_or (replicate n false) k false ≡ false
+replicate_at zero k = refl
+replicate_at (suc n) zero = refl
+replicate_at (suc n) (suc k) = replicate_at n k
+
+-- the first so many places of zeros, filled
+pub first_filled : (rows : ℕ) (words : List ℕ) → rows ≤ 1024 → ((k : ℕ) → 0 ≤ k → k < rows → is_set words k ≡ true) → ((k : ℕ) → rows ≤ k → is_set words k ≡ is_set (replicate 16 0) k) → bits_of 1024 words ≡ first_true rows
+first_filled rows words le inside above =
+    same_bits 1024 words (first_true rows)
+    (length-append (replicate rows true) (replicate (1024 - rows) false) ∙ (λ i. length-replicate rows true i + length-replicate (1024 - rows) false i) ∙ omega arith)
+    (λ k lt. elim (cases_lt k rows) [
+      | inl front ↦ inside k (omega arith) front ∙ sym (get_or_append_left (replicate rows true) (replicate (1024 - rows) false) false k (omega (arith, front, length-replicate rows true)) ∙ get_or-replicate rows k true false front)
+      | inr behind ↦ above k behind ∙ zeros_clear 16 k ∙ sym (get_or-append_right (replicate rows true) (replicate (1024 - rows) false) rows k false (length-replicate rows true) behind ∙ replicate_at (1024 - rows) (k - rows))
+    ])
+
+module _ (op : Bool → Bool → Bool) where
+  abbrev zipped : List Bool → List Bool → List Bool
+  zipped xs ys = map (λ p. op p.0 p.1) (zip xs ys)
+
+  zipped_long : (xs ys : List Bool) → length xs ≡ length ys → length (zipped xs ys) ≡ length xs
+  zipped_long [] ys e = refl
+  zipped_long (x ∷ xs) [] e = absurd (omega (arith, e))
+  zipped_long (x ∷ xs) (y ∷ ys) e = ap suc (zipped_long xs ys (omega (arith, e)))
+
+  zipped_at : (xs ys : List Bool) (k : ℕ) → length xs ≡ length ys → k < length xs → get_or (zipped xs ys) k false ≡ op (get_or xs k false) (get_or ys k false)
+  zipped_at [] ys k e lt = absurd (omega (arith, lt))
+  zipped_at (x ∷ xs) [] k e lt = absurd (omega (arith, e))
+  zipped_at (x ∷ xs) (y ∷ ys) zero e lt = refl
+  zipped_at (x ∷ xs) (y ∷ ys) (suc k) e lt = zipped_at xs ys k (omega (arith, e)) (omega (arith, lt))
+
+  -- words joined bit by bit, seen as truth values
+  pub joined_below : (n : ℕ) (old other new : List ℕ) → ((k : ℕ) → k < n → is_set new k ≡ op (is_set old k) (is_set other k)) → bits_of n new ≡ zipped (bits_of n old) (bits_of n other)
+  joined_below n old other new same =
+      let same_long : length (bits_of n old) ≡ length (bits_of n other) = length_bits n old ∙ sym (length_bits n other) in
+      same_bits n new (zipped (bits_of n old) (bits_of n other)) (zipped_long (bits_of n old) (bits_of n other) same_long ∙ length_bits n old)
+      (λ k lt.
+      let a = bits_at n old k false lt in
+      let b = bits_at n other k false lt in
+      same k lt ∙ (λ i. op (sym a i) (sym b i)) ∙ sym (zipped_at (bits_of n old) (bits_of n other) k same_long (omega (arith, lt, length_bits n old))))
+
+  pub joined_bits : (n : ℕ) (old other new : List ℕ) → ((k : ℕ) → is_set new k ≡ op (is_set old k) (is_set other k)) → bits_of n new ≡ zipped (bits_of n old) (bits_of n other)
+  joined_bits n old other new same = joined_below n old other new (λ k lt. same k)
+
+-- what is found among the words is found among the truth values
+module _ (words : List ℕ) (bits : List Bool) (long : length words ≡ 16) (is : bits_of 1024 words ≡ bits) (from : ℕ) where
+  told : (k : ℕ) → get_or bits k false ≡ is_set words k
+  told k = ap (λ l. get_or l k false) (sym is) ∙ bits_anywhere 1024 words k (omega (arith, long))
+
+  pub told_place : (o : Option ℕ) → IfSome o (λ place. (from ≤ place) × (place < length words * 64) × (is_set words place ≡ true))
+      → IfSome o (λ place. (from ≤ place) × (place < 1024) × (get_or bits place false ≡ true))
+  told_place None h = tt
+  told_place (Some place) h = (h.0, omega (arith, h, long), told place ∙ h.2)
+
+  pub told_least : (o : Option ℕ) → IfSome o (λ place. (k : ℕ) → from ≤ k → k < place → is_set words k ≡ false) → IfSome o (λ place. (k : ℕ) → from ≤ k → k < place → get_or bits k false ≡ false)
+  told_least None h = tt
+  told_least (Some place) h = λ k le lt. told k ∙ h k le lt
+
+  pub told_none : (o : Option ℕ) → IfNone o ((k : ℕ) → from ≤ k → is_set words k ≡ false) → IfNone o ((k : ℕ) → from ≤ k → get_or bits k false ≡ false)
+  told_none None h = λ k le. told k ∙ h k le
+  told_none (Some place) h = tt

@@ -1,0 +1,6 @@
+use Rattle.std.proofs.Common.{◌≡◌, ℕ, ◌*◌, ◌<◌, ◌≤◌, false}
+use Rattle.row_bits.specs.Bits.{is_set}
+use Rattle.row_bits.proofs.words.next_set.Given as goal
+
+abbrev pub invariant-loop-at : goal.invariant-loop-at
+invariant-loop-at l = (k : ℕ) → l.from ≤ k → k < l.at * 64 → is_set l.words k ≡ false
