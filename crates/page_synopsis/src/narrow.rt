@@ -10,7 +10,9 @@ use std::marker::Model;
 /// The codes from `low` to `high`, both among them. Source: this project's own.
 #[derive(Clone, Copy, Debug, PartialEq, Eq)]
 pub struct Range {
+    /// The least code.
     pub low: u32,
+    /// The greatest code, not below the least.
     pub high: u32,
 }
 

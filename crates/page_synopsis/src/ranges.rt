@@ -12,7 +12,9 @@ use std::alloc::{AllocError, Global};
 /// Source: this project's own.
 #[derive(Drop)]
 pub enum Ranges {
+    /// At most 8 runs.
     Narrow(Narrow),
+    /// More than 8 runs.
     Wide(CodeBits),
 }
 
