@@ -1,0 +1,16 @@
+pub mod BindAnswer
+pub mod BoundQuery
+pub mod Caps
+pub mod Checks
+pub mod Conjunctions
+pub mod Counts
+pub mod Examples
+pub mod FactorParts
+pub mod Factors
+pub mod GroupRule
+pub mod Joins
+pub mod Laws
+pub mod Lookup
+pub mod Preconditions
+pub mod StarForm
+pub mod WrongKind

@@ -1,0 +1,22 @@
+//! What a SELECT means over the tables that are there: names as places, the star form, and conditions as conjunctions.
+#![tactic(auto)]
+
+pub mod examples;
+pub mod laws;
+mod catalog;
+mod factors;
+mod fault;
+mod fold;
+mod kinds;
+mod limits;
+mod query;
+mod names;
+mod scope;
+mod tests;
+
+pub use catalog::Catalog;
+pub use fault::BindFault;
+pub use limits::MOST_CONJUNCTIONS;
+pub use query::{
+    BoundExpr, BoundItem, BoundOrder, ColumnRef, ColumnTest, Conjunction, Query, Tie,
+};
