@@ -1,5 +1,7 @@
 pub mod AcceptanceLemmas
 pub mod CapLemmas
+pub mod CappedCountLemmas
+pub mod CheckLemmas
 pub mod ColumnLemmas
 pub mod ConditionLemmas
 pub mod ConjunctionLemmas
@@ -7,8 +9,12 @@ pub mod CountLemmas
 pub mod FactRowLemmas
 pub mod FactorLemmas
 pub mod FactorListLemmas
+pub mod FilterLemmas
 pub mod FoldLemmas
+pub mod GoodnessLemmas
+pub mod GroupRuleLemmas
 pub mod JoinLemmas
+pub mod JointLemmas
 pub mod LiteralLemmas
 pub mod LookupLemmas
 pub mod NameLemmas
@@ -19,3 +25,4 @@ pub mod TableNameLemmas
 pub mod TestsLemmas
 pub mod TieLemmas
 pub mod WhereLemmas
+pub mod WidthLemmas

@@ -1,7 +1,10 @@
 -- What the parts of a condition give, by lists.
-use Rattle.std.proofs.Common.{◌≡◌, ◌≤◌, ℕ, Bool, ◌&&◌, List, [], ◌∷◌, ◌++◌, map, drop, length, Result, Ok, Err, IfOk, true, refl, sym, ap, subst, ◌∙◌}
+use Rattle.std.proofs.Common.{suc, ◌<◌, ◌+◌, get_or, append_assoc, add-one, drop-cons, ◌≡◌, ◌≤◌, ℕ, Bool, ◌&&◌, List, [], ◌∷◌, ◌++◌, map, drop, length, Result, Ok, Err, IfOk, true, refl, sym, ap, subst, ◌∙◌}
 use Rattle.std.specs.List.{list_all}
+use Rattle.std.proofs.lemmas.Bool.{and_parts}
 use Rattle.std.proofs.lemmas.List.{append-nil, drop_all}
+use Rattle.star_bind.specs.declared.factors.Factor.{Factor}
+use Rattle.star_bind.specs.FactorParts.{primary_of}
 use Rattle.blink_lists.specs.Lists.{all_true}
 use Rattle.star_sql.specs.declared.ast.TestWords.{TestWords}
 use Rattle.star_sql.specs.declared.ast.Primary.{Primary, Group}
@@ -46,3 +49,16 @@ good_conjs c conjs e good = ap (list_all conj_is_good) e ∙ sym (good_is c) ∙
 
 pub good_group : (c d : Cond) → d ≡ c → primary_is_good (Group c) ≡ cond_is_good d
 good_group c d e = fold_group is_test (λ b. b) all_true all_true c ∙ ap cond_is_good (sym e)
+
+pub next_made : {A : Type 0} (f : Primary → A) (parts more whole : List A) (factors : List Factor) (i : ℕ) (x : Factor) (y : A) → i < length factors → x ≡ get_or factors i x → y ≡ f (primary_of x)
+    → more ≡ parts ++ y ∷ [] → parts ++ map f (map primary_of (drop i factors)) ≡ whole → more ++ map f (map primary_of (drop (i + 1) factors)) ≡ whole
+next_made {A} f parts more whole factors i x y lt is told push so_far =
+    let rest = map f (map primary_of (drop (i + 1) factors)) in
+    let here : drop i factors ≡ x ∷ drop (i + 1) factors = rw (add-one, drop-cons factors i x) (ap (λ (z : Factor). z ∷ drop (suc i) factors) (sym is)) in
+    ap (λ (xs : List A). xs ++ rest) (push ∙ ap (λ (z : A). parts ++ z ∷ []) told) ∙ append_assoc parts (f (primary_of x) ∷ []) rest
+    ∙ ap (λ (fs : List Factor). parts ++ map f (map primary_of fs)) (sym here) ∙ so_far
+
+pub next_good : {X : Type 0} (p : X → Bool) (xs : List X) (i : ℕ) (x : X) → i < length xs → x ≡ get_or xs i x → list_all p (drop i xs) ≡ true → list_all p (drop (i + 1) xs) ≡ true
+next_good {X} p xs i x lt is good =
+    let here : drop i xs ≡ x ∷ drop (i + 1) xs = rw (add-one, drop-cons xs i x) (ap (λ (z : X). z ∷ drop (suc i) xs) (sym is)) in
+    (and_parts (p x) (list_all p (drop (i + 1) xs)) (ap (list_all p) (sym here) ∙ good)).1

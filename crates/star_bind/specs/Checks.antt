@@ -1,5 +1,5 @@
 -- What the parts of `bind` answer, and the lists that they walk. Source: this project's own.
-use Rattle.std.specs.Prelude.{Bool, ◌≡◌, List, [], ◌∷◌, map, filter, Option, Some, None, option_map, Result, Ok, Err, MatchResult}
+use Rattle.std.specs.Prelude.{Bool, true, ◌≡◌, List, [], ◌∷◌, map, filter, Option, Some, None, option_map, Result, Ok, Err, MatchResult}
 use Rattle.blink_lists.specs.Lists.{joined, first_of, all_true}
 use Rattle.std.specs.List.{list_all}
 use Rattle.std.specs.Option.{option_or}
@@ -11,7 +11,7 @@ use Rattle.star_sql.specs.declared.ast.Cond.{Cond}
 use Rattle.star_sql.specs.declared.ast.Conj.{Conj}
 use Rattle.star_sql.specs.declared.ast.Primary.{Primary}
 use Rattle.star_sql.specs.Conditions.{of_cond, of_prim}
-use Rattle.star_sql.specs.WellFormed.{is_test}
+use Rattle.star_sql.specs.WellFormed.{is_test, is_condition}
 use Rattle.star_meaning.specs.Names.{Scope, name_text}
 use Rattle.star_meaning.specs.NameRefusals.{is_unknown, is_ambiguous}
 use Rattle.star_bind.specs.declared.scope.Place.{Place}
@@ -54,3 +54,8 @@ primary_is_good = of_prim is_test (λ b. b) all_true all_true
 -- whether each test in a conjunction is
 abbrev pub conj_is_good : Conj → Bool
 conj_is_good conj = list_all primary_is_good conj.all
+
+-- whether the condition that is there is well formed
+abbrev pub where_formed : Option Cond → Bool
+where_formed None = true
+where_formed (Some c) = is_condition c

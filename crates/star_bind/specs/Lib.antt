@@ -1,5 +1,6 @@
 pub mod BindAnswer
 pub mod BoundQuery
+pub mod CappedCounts
 pub mod Caps
 pub mod Checks
 pub mod Conjunctions
@@ -9,6 +10,7 @@ pub mod FactorParts
 pub mod Factors
 pub mod GroupRule
 pub mod Joins
+pub mod Joints
 pub mod Laws
 pub mod Lookup
 pub mod Preconditions

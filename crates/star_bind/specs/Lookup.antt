@@ -1,6 +1,9 @@
 -- FROM entries as the code holds them, and columns that are found one behind the other. Source: this project's own.
 use Rattle.std.specs.Prelude.{ℕ, Bool, true, false, not, ◌&&◌, ◌==◌, List, [], ◌∷◌, map, position, Option, Some, None, option_map, is_none}
+use Rattle.std.specs.List.{list_any}
 use Rattle.star_sql.specs.declared.ast.ColumnName.{ColumnName}
+use Rattle.star_sql.specs.declared.ast.What.{What}
+use Rattle.star_sql.specs.declared.ast.What.TheVariants as what
 use Rattle.star_meaning.specs.Names.{Scope, FromEntry, ColumnPlace, place_of}
 use Rattle.star_meaning.specs.NameRefusals.{is_ambiguous}
 use Rattle.star_bind.specs.declared.scope.Entry.{Entry}
@@ -60,3 +63,17 @@ index_of places (Some p) = position (is_same_place p) places
 -- whether a key fits no column, or none of these
 abbrev pub is_lost : Scope → List (Option Place) → ColumnName → Bool
 is_lost scope places c = not (is_ambiguous scope c) && is_none (index_of places (option_map place_in (place_of scope c)))
+
+-- whether a column that is there is one of these
+abbrev pub stands_among : List (Option Place) → Option Place → Bool
+stands_among places None = false
+stands_among places (Some p) = list_any (is_same_place p) places
+
+-- whether an item is no bare column, or one of these columns
+abbrev pub item_stands : Scope → List (Option Place) → What → Bool
+item_stands scope places (what.Column c) = stands_among places (option_map place_in (place_of scope c))
+item_stands scope places what.Count = true
+item_stands scope places (what.Sum e) = true
+item_stands scope places (what.Avg e) = true
+item_stands scope places (what.Min c) = true
+item_stands scope places (what.Max c) = true

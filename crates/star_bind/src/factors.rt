@@ -1,8 +1,10 @@
 // The factors of a condition.
-ghost use Rattle.std.specs.Prelude.{◌≡◌, ◌++◌, OnOk, IfOk, map};
+ghost use Rattle.std.specs.Prelude.{true, ◌≡◌, ◌++◌, OnOk, IfOk, map};
 ghost use Rattle.blink_lists.specs.Lists.{joined};
 ghost use Rattle.star_bind.specs.Factors.{factors_of, of_primary, factors};
+ghost use Rattle.std.specs.List.{list_all};
 ghost use Rattle.star_bind.specs.FactorParts.{primary_of};
+ghost use Rattle.star_bind.specs.Checks.{primary_is_good, where_formed};
 
 use star_sql::{Cond, Primary, TestWords};
 use std::alloc::{AllocError, Global};
@@ -57,15 +59,24 @@ fn add_cond<'a>(cond: &'a Cond, factors: &mut Vec<Factor<'a>>) -> Result<(), All
 }
 
 // The factors of a WHERE, in order.
+fn gathered(alloc: Global, condition: &Option<Cond>) -> Result<Vec<Factor<'_>>, AllocError>
+    ensures { IfOk result (λ all. map primary_of all.items ≡ factors condition.now) }
+{
+    let mut all = Vec::new(alloc);
+    if let Some(cond) = condition {
+        add_cond(cond, &mut all)?;
+    }
+    Ok(all)
+}
+
+// The factors of a WHERE that is well formed, in order.
 pub(crate) fn where_factors(
     alloc: Global,
     condition: &Option<Cond>,
 ) -> Result<Vec<Factor<'_>>, AllocError>
-    ensures { IfOk result (λ all. map primary_of all.items ≡ factors condition.now) }
+    requires { where_formed condition.now ≡ true }
+    ensures factors { IfOk result (λ all. map primary_of all.items ≡ factors condition.now) }
+    ensures good { IfOk result (λ all. list_all (λ f. primary_is_good (primary_of f)) all.items ≡ true) }
 {
-    let mut factors = Vec::new(alloc);
-    if let Some(cond) = condition {
-        add_cond(cond, &mut factors)?;
-    }
-    Ok(factors)
+    gathered(alloc, condition)
 }

@@ -1,5 +1,6 @@
 // What a condition gives, part by part.
 ghost use Rattle.std.specs.Prelude.{◌≡◌, true, IfOk, map};
+ghost use Rattle.std.specs.List.{list_all};
 ghost use Rattle.star_sql.specs.Conditions.{of_prim, of_cond};
 ghost use Rattle.star_sql.specs.WellFormed.{is_test};
 ghost use Rattle.star_bind.specs.Lookup.{scope_from};
@@ -94,4 +95,35 @@ pub(crate) fn of_cond<P: Part + Drop>(
         parts.push(of_conj(alloc, scope, conj)?)?;
     }
     P::some(alloc, parts)
+}
+
+// What a factor gives.
+pub(crate) fn of_factor<P: Part + Drop>(
+    alloc: Global,
+    scope: &[Entry],
+    factor: &Factor,
+) -> Result<P, AllocError>
+    requires { primary_is_good (primary_of factor.now) ≡ true }
+    ensures { IfOk result (λ part. part ≡ of_prim (P.of_test (scope_from scope.now)) (λ x. x) P.of_every P.of_some (primary_of factor.now)) }
+{
+    match factor {
+        Factor::Words(words) => P::test(alloc, scope, words),
+        Factor::Whole(cond) => of_cond(alloc, scope, cond),
+    }
+}
+
+// What the AND of some factors gives.
+pub(crate) fn of_factors<P: Part + Drop>(
+    alloc: Global,
+    scope: &[Entry],
+    factors: &[Factor],
+) -> Result<P, AllocError>
+    requires { list_all (λ f. primary_is_good (primary_of f)) factors.now ≡ true }
+    ensures { IfOk result (λ part. part ≡ P.of_every (map (of_prim (P.of_test (scope_from scope.now)) (λ x. x) P.of_every P.of_some) (map primary_of factors.now))) }
+{
+    let mut parts = Vec::with_capacity(alloc, factors.len())?;
+    for factor in factors {
+        parts.push(of_factor(alloc, scope, factor)?)?;
+    }
+    P::every(alloc, parts)
 }

@@ -112,7 +112,7 @@ pub(crate) fn is_prefix_pattern(pattern: &[u8]) -> bool
 }
 
 // Whether a column of a kind can't take the literals or the pattern of a test.
-fn refuses(alloc: Global, kind: Kind, words: &TestWords) -> bool
+pub(crate) fn refuses(alloc: Global, kind: Kind, words: &TestWords) -> bool
     ensures { result ≡ is_none (test_of kind words.now) }
 {
     match words {

@@ -4,15 +4,21 @@
 pub mod examples;
 pub mod laws;
 mod catalog;
+mod checks;
+mod count;
 mod factors;
 mod fault;
+mod filters;
 mod fold;
+mod groups;
 mod kinds;
 mod limits;
 mod query;
 mod names;
 mod scope;
+mod star;
 mod tests;
+mod width;
 
 pub use catalog::Catalog;
 pub use fault::BindFault;

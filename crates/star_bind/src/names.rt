@@ -184,7 +184,7 @@ pub(crate) fn item_places(
 }
 
 // Whether a column that is there is this one.
-fn is_place(place: Place, other: Option<Place>) -> bool
+pub(crate) fn is_place(place: Place, other: Option<Place>) -> bool
     ensures { result ≡ is_same_place place other }
 {
     match other {

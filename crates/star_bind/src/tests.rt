@@ -1,10 +1,13 @@
 // The tests of a condition, in the order of the text.
 ghost use Rattle.std.specs.Prelude.{◌≡◌, ◌++◌, OnOk, IfOk, map};
 ghost use Rattle.blink_lists.specs.Lists.{joined};
+ghost use Rattle.star_sql.specs.Literals.{column_of};
 ghost use Rattle.star_bind.specs.Factors.{tests_in};
+ghost use Rattle.star_bind.specs.FactorParts.{primary_of};
 ghost use Rattle.star_bind.specs.Checks.{tests_of, where_tests};
 
-use star_sql::{Cond, Conj, Primary, TestWords};
+use crate::factors::Factor;
+use star_sql::{ColumnName, Cond, Conj, Primary, TestWords};
 use std::alloc::{AllocError, Global};
 
 // Adds the tests of a test or a group.
@@ -52,6 +55,36 @@ pub(crate) fn where_tests(alloc: Global, condition: &Option<Cond>) -> Result<Vec
     let mut tests = Vec::new(alloc);
     if let Some(cond) = condition {
         add_cond(cond, &mut tests)?;
+    }
+    Ok(tests)
+}
+
+// The column that a test names first.
+pub(crate) fn column_of(words: &TestWords) -> &ColumnName
+    ensures { result.now ≡ column_of words.now }
+{
+    match words {
+        TestWords::Compare { column, .. }
+        | TestWords::Between { column, .. }
+        | TestWords::Among { column, .. }
+        | TestWords::Like { column, .. } => column,
+        TestWords::Columns { left, .. } => left,
+    }
+}
+
+// The tests of a factor.
+pub(crate) fn factor_tests<'a>(
+    alloc: Global,
+    factor: &Factor<'a>,
+) -> Result<Vec<&'a TestWords>, AllocError>
+    ensures { IfOk result (λ tests. map (λ x. x.now) tests.items ≡ tests_in (primary_of factor.now)) }
+{
+    let mut tests = Vec::new(alloc);
+    match factor {
+        Factor::Words(words) => {
+            tests.push(*words)?;
+        }
+        Factor::Whole(cond) => add_cond(cond, &mut tests)?,
     }
     Ok(tests)
 }
