@@ -1,5 +1,5 @@
 -- The tests of a well formed statement are well formed, and so are those of its factors.
-use Rattle.std.proofs.Common.{◌≡◌, ◌&&◌, Bool, true, false, List, [], ◌∷◌, ◌++◌, map, Option, Some, None, Result, Ok, Err, IfOk, refl, sym, ap, ◌∙◌, true≢false}
+use Rattle.std.proofs.Common.{◌≡◌, ◌&&◌, Bool, true, false, List, [], ◌∷◌, ◌++◌, map, Option, Some, None, Result, Ok, Err, IfOk, IsTrue, refl, sym, ap, ◌∙◌, true≢false}
 use Rattle.std.specs.List.{list_all}
 use Rattle.std.proofs.lemmas.Bool.{and_parts}
 use Rattle.std.proofs.lemmas.List.Folds.{list_all-append}
@@ -8,7 +8,8 @@ use Rattle.star_sql.specs.declared.ast.Primary.{Primary, Test as TestIn, Group',
 use Rattle.star_sql.specs.declared.ast.Cond.{Cond, Cond', Row_of-Conj, end_of-Conj, more_of-Conj, Row_of-Primary, end_of-Primary, more_of-Primary}
 use Rattle.star_sql.specs.declared.ast.Select.{Select}
 use Rattle.star_sql.specs.Conditions.{of_boxed, of_conjs, of_prims}
-use Rattle.star_sql.specs.WellFormed.{is_test, is_condition, some_and_all}
+use Rattle.star_sql.specs.WellFormed.{is_test, is_condition, some_and_all, if_there, is_item, is_column_name, is_order_key, is_written_limit, is_select}
+use Rattle.blink_base.specs.Identifiers.{is_name}
 use Rattle.star_bind.specs.declared.factors.Factor.{Factor}
 use Rattle.star_bind.specs.Checks.{primary_is_good, cond_is_good, where_formed}
 use Rattle.star_bind.specs.Factors.{grouped, factors_of, of_one, of_all, of_primary, of_box, factors}
@@ -81,3 +82,18 @@ pub gathered_good : {X E : Type 0} (items : X → List Factor) (r : Result X E) 
     → IfOk r (λ all. list_all (λ f. primary_is_good (primary_of f)) (items all) ≡ true)
 gathered_good items (Ok all) o h told = good_factors o (items all) h told
 gathered_good items (Err why) o h told = tt
+
+-- the condition of a well formed SELECT is well formed
+pub select_formed : (s : Select) → IsTrue (is_select s) → where_formed s.condition ≡ true
+select_formed s h =
+    let first = some_and_all is_item s.items && some_and_all is_name s.tables in
+    let upto = first && if_there is_condition s.condition in
+    let a = and_parts (upto && list_all is_column_name s.groups && list_all is_order_key s.order) (if_there is_written_limit s.limit) h in
+    let b = and_parts (upto && list_all is_column_name s.groups) (list_all is_order_key s.order) a.0 in
+    let c = and_parts upto (list_all is_column_name s.groups) b.0 in
+    let d = and_parts first (if_there is_condition s.condition) c.0 in
+    there s.condition d.1
+  where
+    there : (o : Option Cond) → if_there is_condition o ≡ true → where_formed o ≡ true
+    there None e = refl
+    there (Some c) e = e

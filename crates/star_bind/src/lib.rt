@@ -21,6 +21,7 @@ mod tests;
 mod width;
 
 pub use catalog::Catalog;
+pub use checks::check;
 pub use fault::BindFault;
 pub use limits::MOST_CONJUNCTIONS;
 pub use query::{
