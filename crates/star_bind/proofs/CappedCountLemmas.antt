@@ -1,5 +1,5 @@
 -- Columns that are gathered one behind the other, and numbers that are capped at each step.
-use Rattle.std.proofs.Common.{◌≡◌, ◌<◌, ◌≤◌, ◌+◌, ◌*◌, ◌==◌, ℕ, suc, Bool, true, false, not, ◌&&◌, ◌||◌, cond, List, [], ◌∷◌, ◌++◌, map, filter, sum_by, length, drop, get_or, Option, Some, None, append_assoc, add-one, drop-cons, refl, sym, ap, ◌∙◌, true≢false, arith}
+use Rattle.std.proofs.Common.{◌≡◌, ◌<◌, ◌≤◌, ◌+◌, ◌*◌, ◌==◌, ℕ, suc, Bool, true, false, not, ◌&&◌, ◌||◌, cond, List, [], ◌∷◌, ◌++◌, map, filter, sum_by, length, drop, get_or, Option, Some, None, append_assoc, add-one, drop-cons, refl, sym, ap, ◌∙◌, arith}
 use Rattle.std.specs.List.{list_any}
 use Rattle.std.specs.Prelude.{option_map, is_none}
 use Rattle.blink_base.specs.declared.value.Kind.{Kind}
@@ -18,7 +18,7 @@ use Rattle.star_meaning.specs.Names.{Scope, ColumnPlace, place_of, kind_at}
 use Rattle.star_bind.specs.declared.scope.Place.{Place}
 use Rattle.star_bind.specs.Lookup.{place_in}
 use Rattle.star_bind.specs.declared.count.Count.{Count}
-use Rattle.star_bind.specs.Caps.{capped, CapsCompose}
+use Rattle.star_bind.specs.Caps.{capped}
 use Rattle.star_bind.specs.Counts.{Counted, counted, counted_columns, product_of, and_count, or_count, leaf_count, test_count, factor_count}
 use Rattle.star_bind.specs.CappedCounts.{with_column, add_once, sum_from, product_from, count_of, count_columns, count_test, count_every, count_some}
 use Rattle.star_bind.proofs.CapLemmas.{caps_compose}

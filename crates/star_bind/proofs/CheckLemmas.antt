@@ -1,5 +1,5 @@
 -- Refusals one behind the other, of which the first counts.
-use Rattle.std.proofs.Common.{◌≡◌, ℕ, filter, filter_map, subst, List, [], ◌∷◌, map, Bool, length, Option, Some, None, Result, Ok, Err, IfOk, refl, sym, ap, ◌∙◌}
+use Rattle.std.proofs.Common.{◌≡◌, ℕ, filter, filter_map, subst, List, [], ◌∷◌, map, Bool, length, Option, Some, None, Result, Ok, Err, IfOk, sym, ap, ◌∙◌}
 use Rattle.std.specs.List.{list_any}
 use Rattle.std.specs.Option.{option_or}
 use Rattle.blink_lists.specs.Lists.{numbers_from, first_of}

@@ -58,11 +58,11 @@ module _ (n : ℕ) where
       let rest = choices_below lists b.1 in
       all-flat_map (λ choice. tests_below (joined choice)) (λ x. map (λ chosen. x ∷ chosen) (choices lists)) tests
       ∙ (all-imply tests_below (λ x. list_all (λ choice. tests_below (joined choice)) (map (λ chosen. x ∷ chosen) (choices lists)))
-        (λ x k.
-        list_all-map (λ choice. tests_below (joined choice)) (λ chosen. x ∷ chosen) (choices lists)
-        ∙ all-imply (λ choice. tests_below (joined choice)) (λ choice. tests_below (x ++ joined choice))
-          (λ choice j. list_all-append (λ (t : ColumnTest). below t.column) x (joined choice) ∙ and_both (tests_below x) (tests_below (joined choice)) k j) (choices lists) rest)
-        tests b.0)
+      (λ x k.
+      list_all-map (λ choice. tests_below (joined choice)) (λ chosen. x ∷ chosen) (choices lists)
+      ∙ all-imply (λ choice. tests_below (joined choice)) (λ choice. tests_below (x ++ joined choice))
+      (λ choice j. list_all-append (λ (t : ColumnTest). below t.column) x (joined choice) ∙ and_both (tests_below x) (tests_below (joined choice)) k j) (choices lists) rest)
+      tests b.0)
 
   merged_below : (tests : Tests) → tests_below tests ≡ true → tests_below (merged tests) ≡ true
   merged_below tests h =
@@ -113,7 +113,7 @@ factor_named : (entry : FromEntry) (f : Primary) → Named (length entry.schema.
 factor_named entry f =
     prim_agrees (Named (length entry.schema.columns)) (test_subtree (entry ∷ [])) (λ s. s) and_of or_of (λ w. tt) (λ u. tt) (λ us. tt) (λ us. tt)
     (λ w. leaf_named (length entry.schema.columns) (option_map (λ (p : ColumnPlace). p.column) (place_of (entry ∷ []) (column_of w))) (option_map_or (λ (p : ColumnPlace). test_of (kind_at (entry ∷ []) p) w) (place_of (entry ∷ []) (column_of w)) None)
-      (place_within entry (column_of w) (place_of (entry ∷ []) (column_of w)) refl))
+    (place_within entry (column_of w) (place_of (entry ∷ []) (column_of w)) refl))
     (λ x y h. h) (and_named (length entry.schema.columns)) (or_named (length entry.schema.columns)) f
 
 each_named : (entry : FromEntry) (fs : List Primary) → AllAgree (Named (length entry.schema.columns)) (map (factor_subtree (entry ∷ [])) fs) (map (λ f. tt) fs)

@@ -44,11 +44,11 @@ merged-passes : (row : Row) (tests : List ColumnTest) → list_all (passes_test 
 merged-passes row tests =
     list_all-map (passes_test row) (λ k. record { column = k; tree = anded (map (λ (t : ColumnTest). t.tree) (of_column k)) }) (once_each (λ x y. x == y) (map (λ (t : ColumnTest). t.column) tests))
     ∙ all-alike (λ k. tree_holds (value_in row k) (anded (map (λ (t : ColumnTest). t.tree) (of_column k)))) (λ k. list_all (passes_test row) (of_column k))
-      (λ k. anded-holds (value_in row k) (map (λ (t : ColumnTest). t.tree) (of_column k))
-      ∙ list_all-map (tree_holds (value_in row k)) (λ (t : ColumnTest). t.tree) (of_column k)
-      ∙ all-filtered (λ (t : ColumnTest). k == t.column) (λ (t : ColumnTest). tree_holds (value_in row k) t.tree) (passes_test row)
-        (λ t e. ap (λ j. tree_holds (value_in row j) t.tree) (eqb-true k t.column e)) tests)
-      (once_each (λ x y. x == y) (map (λ (t : ColumnTest). t.column) tests))
+    (λ k. anded-holds (value_in row k) (map (λ (t : ColumnTest). t.tree) (of_column k))
+    ∙ list_all-map (tree_holds (value_in row k)) (λ (t : ColumnTest). t.tree) (of_column k)
+    ∙ all-filtered (λ (t : ColumnTest). k == t.column) (λ (t : ColumnTest). tree_holds (value_in row k) t.tree) (passes_test row)
+    (λ t e. ap (λ j. tree_holds (value_in row j) t.tree) (eqb-true k t.column e)) tests)
+    (once_each (λ x y. x == y) (map (λ (t : ColumnTest). t.column) tests))
     ∙ all-by_key (λ x y. x == y) numbers_same (λ (t : ColumnTest). t.column) (passes_test row) tests
   where
     of_column : ℕ → List ColumnTest
@@ -157,7 +157,7 @@ module _ (row : Row) where
   leaf_meets k (Some t) =
       record {
         as_one = λ j h. ap (λ c. test_holds t (value_in row c)) (sym (eqb-true k j (both (k == j) true h).0));
-        passed = or-false (test_holds t (value_in row k) && true) ∙ and-true (test_holds t (value_in row k))
+        passed = or-false (test_holds t (value_in row k) && true) ∙ and-true (test_holds t (value_in row k));
       }
 
 module _ (scope : Scope) (rows : Combination) (table : ℕ) where

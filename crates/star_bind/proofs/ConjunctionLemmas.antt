@@ -233,11 +233,11 @@ all_filters : (entry : FromEntry) (s : Select) (fact : ℕ) → is_fact (entry �
 all_filters entry s fact h =
     all-pass (λ f. not (is_pair_factor f) && list_all (λ t. t == 0) (tables_in (entry ∷ []) f)) (factors s.condition)
     (all_follow (λ f. not (is_pair_factor f) || length (ties_in (entry ∷ []) fact f) == 1) (λ f. not (is_pair_factor f) && list_all (λ t. t == 0) (tables_in (entry ∷ []) f))
-      (λ f k. and_both (not (is_pair_factor f)) (list_all (λ t. t == 0) (tables_in (entry ∷ []) f)) (no_pair f k)
-      (once_all (λ t. t == 0) (filter_map (λ words. option_map_or (λ (p : ColumnPlace). Some p.table) (place_of (entry ∷ []) (column_of words)) None) (tests_in f)) (tables_first entry (tests_in f))))
-      (factors s.condition)
+    (λ f k. and_both (not (is_pair_factor f)) (list_all (λ t. t == 0) (tables_in (entry ∷ []) f)) (no_pair f k)
+    (once_all (λ t. t == 0) (filter_map (λ words. option_map_or (λ (p : ColumnPlace). Some p.table) (place_of (entry ∷ []) (column_of words)) None) (tests_in f)) (tables_first entry (tests_in f))))
+    (factors s.condition)
     (both (list_all (λ f. not (is_pair_factor f) || length (ties_in (entry ∷ []) fact f) == 1) (factors s.condition))
-      (list_all (λ p. p.0 == fact || count_by (λ (t : Tie). t.dimension == p.0) (ties_of (entry ∷ []) s fact) == 1) (numbered (entry ∷ []))) h).0)
+    (list_all (λ p. p.0 == fact || count_by (λ (t : Tie). t.dimension == p.0) (ties_of (entry ∷ []) s fact) == 1) (numbered (entry ∷ []))) h).0)
   where
     of_or : (a b : Bool) → b ≡ false → (a || b) ≡ true → a ≡ true
     of_or true b k m = refl
@@ -272,4 +272,4 @@ kept_by_conjunctions entry s rows e =
     let star = parts_of_star (entry ∷ []) s (star_of (entry ∷ []) s e) in
     kept_by_factors entry s.condition rows
     ∙ ap (map (λ row. row ∷ [])) (filter-alike (λ row. list_all (factor_holds (entry ∷ []) (row ∷ [])) (factors s.condition)) (λ row. list_any (passes row) (table_conjunctions (entry ∷ []) s 0))
-      (λ row. ap (list_all (factor_holds (entry ∷ []) (row ∷ []))) (sym (all_filters entry s star.1.0 star.1.1)) ∙ sym (star_meets (entry ∷ []) s (row ∷ []) 0 star.0)) rows)
+    (λ row. ap (list_all (factor_holds (entry ∷ []) (row ∷ []))) (sym (all_filters entry s star.1.0 star.1.1)) ∙ sym (star_meets (entry ∷ []) s (row ∷ []) 0 star.0)) rows)

@@ -1,5 +1,5 @@
 -- A star query keeps at most one combination per row of its fact.
-use Rattle.std.proofs.Common.{◌≡◌, ℕ, ◌+◌, ◌<◌, ◌==◌, Bool, true, false, ◌&&◌, ◌||◌, List, [], ◌∷◌, map, filter, length, slice_get, slice_index_or, Option, Some, None, option_map, cond, refl, sym, ap, ◌∙◌, subst, arith}
+use Rattle.std.proofs.Common.{◌≡◌, ℕ, ◌+◌, ◌<◌, ◌==◌, Bool, true, false, ◌&&◌, ◌||◌, List, [], ◌∷◌, map, filter, length, slice_get, slice_index_or, Option, Some, None, cond, refl, sym, ap, ◌∙◌, subst, arith}
 use Rattle.std.specs.Prelude.{unwrap_or, filter_map}
 use Rattle.std.specs.List.{list_all, zip}
 use Rattle.std.specs.Option.{option_and_then}
@@ -16,7 +16,7 @@ use Rattle.star_bind.specs.declared.query.Tie.{Tie}
 use Rattle.star_bind.specs.Factors.{factors}
 use Rattle.star_bind.specs.StarForm.{is_pair_factor, ties_of, fact_of}
 use Rattle.star_bind.specs.BoundQuery.{Schemas, scope_of, query_in, query_of}
-use Rattle.star_bind.specs.Laws.{factor_holds, tied_row, tie_of, row_beside, combination_of, may_hold, if_kept, KeptPerFactRow}
+use Rattle.star_bind.specs.Laws.{factor_holds, tied_row, tie_of, combination_of, may_hold, if_kept, KeptPerFactRow}
 use Rattle.blink_lists.specs.Products.{each_passes, all_there}
 use Rattle.blink_lists.proofs.BoolLemmas.{all-cases}
 use Rattle.blink_lists.proofs.ProductLemmas.{is_one}

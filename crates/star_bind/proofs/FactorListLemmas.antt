@@ -2,8 +2,8 @@
 use Rattle.std.proofs.Common.{◌≡◌, length, get_or, arith, List, [], ◌∷◌, ◌++◌, map, Result, Ok, Err, OnOk, refl, sym, ap, ◌∙◌}
 use denote.Hole.Carrier.{hidden}
 use Rattle.blink_lists.specs.Lists.{joined}
-use Rattle.star_sql.specs.declared.ast.Primary.{Primary, Test, Group}
-use Rattle.star_sql.specs.declared.ast.Primary.TheBlock.{hidden-the_row-Conj-2, shown-the_row-Primary-1, hidden-the_row-Cond-0, shape-the_row-Cond-0}
+use Rattle.star_sql.specs.declared.ast.Primary.{Primary, Group}
+use Rattle.star_sql.specs.declared.ast.Primary.TheBlock.{hidden-the_row-Conj-2, hidden-the_row-Cond-0, shape-the_row-Cond-0}
 use Rattle.star_sql.specs.declared.ast.Cond.{Cond, rolls-Cond', Row_of-Conj, end_of-Conj, more_of-Conj, Row_of-Primary, end_of-Primary, more_of-Primary, items-the_row-Primary, items_shown-the_row-Primary-1, items-the_row-Conj, items_hidden-the_row-Conj-2}
 use Rattle.star_sql.specs.declared.ast.Conj.{Conj}
 use Rattle.star_sql.specs.ConditionParsers.{cond_of}

@@ -1,5 +1,5 @@
 -- What the parts of a condition give, by lists.
-use Rattle.std.proofs.Common.{suc, ◌<◌, ◌+◌, get_or, append_assoc, add-one, drop-cons, ◌≡◌, ◌≤◌, ℕ, Bool, ◌&&◌, List, [], ◌∷◌, ◌++◌, map, drop, length, Result, Ok, Err, IfOk, true, refl, sym, ap, subst, ◌∙◌}
+use Rattle.std.proofs.Common.{suc, ◌<◌, ◌+◌, get_or, append_assoc, add-one, drop-cons, ◌≡◌, ◌≤◌, ℕ, Bool, ◌&&◌, List, [], ◌∷◌, ◌++◌, map, drop, length, Result, Ok, Err, IfOk, true, refl, sym, ap, ◌∙◌}
 use Rattle.std.specs.List.{list_all}
 use Rattle.std.proofs.lemmas.Bool.{and_parts}
 use Rattle.std.proofs.lemmas.List.{append-nil, drop_all}

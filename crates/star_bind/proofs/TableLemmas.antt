@@ -28,7 +28,7 @@ module _ (scope : Scope) (table n : ℕ) (within : (c : ColumnName) (p : ColumnP
   words_named w h =
       let b = both (not (compares_columns w)) (option_map_or (λ (p : ColumnPlace). p.table == table) (place_of scope (column_of w)) true) h in
       leaf_named n (option_map (λ (p : ColumnPlace). p.column) (place_of scope (column_of w))) (option_map_or (λ (p : ColumnPlace). test_of (kind_at scope p) w) (place_of scope (column_of w)) None)
-        (by (place_of scope (column_of w)) refl b.1)
+      (by (place_of scope (column_of w)) refl b.1)
     where
       by : (place : Option ColumnPlace) → place_of scope (column_of w) ≡ place → option_map_or (λ (p : ColumnPlace). p.table == table) place true ≡ true
           → option_map_or (λ k. nat_lt k n) (option_map (λ (p : ColumnPlace). p.column) place) true ≡ true

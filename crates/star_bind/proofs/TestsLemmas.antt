@@ -1,9 +1,9 @@
 -- The tests of a condition, by lists.
-use Rattle.std.proofs.Common.{◌≡◌, ◌≤◌, ℕ, List, [], ◌∷◌, ◌++◌, map, drop, length, Result, Ok, Err, OnOk, sym, ap, ◌∙◌, refl}
+use Rattle.std.proofs.Common.{◌≡◌, ◌≤◌, ℕ, List, [], ◌∷◌, ◌++◌, map, drop, length, Result, Ok, Err, OnOk, sym, ap, ◌∙◌}
 use Rattle.std.proofs.lemmas.List.{append-nil, drop_all}
 use Rattle.blink_lists.specs.Lists.{joined}
 use Rattle.star_sql.specs.declared.ast.TestWords.{TestWords}
-use Rattle.star_sql.specs.declared.ast.Primary.{Primary, Test, Group}
+use Rattle.star_sql.specs.declared.ast.Primary.{Primary, Group}
 use Rattle.star_sql.specs.declared.ast.Cond.{Cond}
 use Rattle.star_sql.specs.declared.ast.Conj.{Conj}
 use Rattle.star_sql.proofs.FoldLemmas.{conjs_of, cond_of-conjs, fold_cond, fold_group}

@@ -1,21 +1,17 @@
 -- Whether a table's condition has more conjunctions than it may, by capped counts.
-use Rattle.std.proofs.Common.{◌≡◌, ◌<◌, ◌≤◌, ◌+◌, ◌-◌, ◌==◌, ◌&&◌, ◌||◌, not, ℕ, suc, Bool, true, false, List, [], ◌∷◌, map, filter, length, nat_lt, refl, sym, ap, ◌∙◌, arith, ◌⊎◌, inl, inr}
+use Rattle.std.proofs.Common.{◌≡◌, ◌<◌, ◌≤◌, ◌+◌, ◌-◌, ◌==◌, ◌&&◌, ◌||◌, not, ℕ, suc, Bool, true, false, List, [], ◌∷◌, map, filter, length, nat_lt, refl, sym, ap, ◌∙◌, arith}
 use Rattle.std.specs.List.{list_all, list_any}
-use Rattle.std.proofs.lemmas.Bool.{cases_lt, lt-ltb, le-leb}
 use Rattle.std.proofs.lemmas.List.{length-map}
 use Rattle.blink_lists.specs.Lists.{numbered, numbered_from, numbers_from}
 use Rattle.star_sql.specs.declared.ast.Primary.{Primary}
 use Rattle.star_sql.specs.declared.ast.Select.{Select}
 use Rattle.star_meaning.specs.Names.{Scope, FromEntry}
 use Rattle.star_bind.specs.declared.limits.TheConstants.{MOST_CONJUNCTIONS}
-use Rattle.star_bind.specs.declared.factors.Factor.{Factor}
 use Rattle.star_bind.specs.declared.scope.Entry.{Entry}
 use Rattle.star_bind.specs.Caps.{capped}
-use Rattle.star_bind.specs.Counts.{and_count, factor_count, table_count}
-use Rattle.star_bind.specs.Conjunctions.{filters_of, table_conjunctions}
+use Rattle.star_bind.specs.Counts.{and_count, factor_count}
 use Rattle.star_bind.specs.Factors.{factors}
 use Rattle.star_bind.specs.StarForm.{is_pair_factor, tables_in}
-use Rattle.star_bind.specs.FactorParts.{primary_of}
 use Rattle.star_bind.specs.BoundQuery.{is_wide}
 use Rattle.star_bind.specs.CappedCounts.{count_in}
 use Rattle.star_bind.specs.Lookup.{scope_from}

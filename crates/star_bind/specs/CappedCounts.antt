@@ -1,5 +1,5 @@
 -- How many conjunctions a condition has, counted part by part and no further than one more than the most. Source: this project's own.
-use Rattle.std.specs.Prelude.{ℕ, Bool, ◌+◌, ◌*◌, ◌==◌, List, [], ◌∷◌, ◌++◌, map, filter, not, ◌&&◌, cond}
+use Rattle.std.specs.Prelude.{ℕ, ◌+◌, ◌*◌, ◌==◌, List, [], ◌∷◌, ◌++◌, map, filter, not, ◌&&◌, cond}
 use Rattle.std.specs.List.{list_any, list_all}
 use Rattle.blink_lists.specs.Lists.{joined, once_each}
 use Rattle.star_sql.specs.declared.ast.TestWords.{TestWords}
@@ -7,7 +7,7 @@ use Rattle.star_sql.specs.declared.ast.Primary.{Primary}
 use Rattle.star_meaning.specs.Names.{Scope}
 use Rattle.star_bind.specs.declared.count.Count.{Count}
 use Rattle.star_bind.specs.Caps.{capped}
-use Rattle.star_bind.specs.Counts.{Counted, test_count, factor_count, and_count}
+use Rattle.star_bind.specs.Counts.{test_count, factor_count, and_count}
 use Rattle.star_bind.specs.StarForm.{is_pair_factor, tables_in}
 
 -- columns with one that isn't there yet

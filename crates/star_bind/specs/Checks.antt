@@ -1,5 +1,5 @@
 -- What the parts of `bind` answer, and the lists that they walk. Source: this project's own.
-use Rattle.std.specs.Prelude.{Bool, true, ◌≡◌, List, [], ◌∷◌, map, filter, Option, Some, None, option_map, Result, Ok, Err, MatchResult}
+use Rattle.std.specs.Prelude.{Bool, true, ◌≡◌, List, [], ◌∷◌, filter, Option, Some, None, option_map, Result, MatchResult}
 use Rattle.blink_lists.specs.Lists.{joined, first_of, all_true}
 use Rattle.std.specs.List.{list_all}
 use Rattle.std.specs.Option.{option_or}

@@ -1,5 +1,5 @@
 -- Laws of bound queries: conjunctions are the condition, and a star keeps at most one combination per row of its fact. Source: this project's own.
-use Rattle.std.specs.Prelude.{◌≡◌, ◌==◌, not, ℕ, pos, Bool, true, false, ◌&&◌, List, [], ◌∷◌, map, filter, filter_map, find, length, nat_lt, Option, Some, None, option_map, slice_get, slice_index_or, IsTrue}
+use Rattle.std.specs.Prelude.{◌≡◌, ◌==◌, not, ℕ, pos, Bool, true, false, ◌&&◌, List, [], ◌∷◌, map, filter, filter_map, find, length, nat_lt, Option, Some, None, slice_get, slice_index_or, IsTrue}
 use Rattle.std.specs.List.{list_any, list_all, zip}
 use Rattle.std.specs.Option.{option_and_then}
 use Rattle.blink_base.specs.declared.value.Value.{Value}

@@ -11,8 +11,6 @@ ghost use Rattle.star_bind.specs.FactorParts.{primary_of};
 ghost use Rattle.star_bind.specs.Factors.{factors};
 ghost use Rattle.star_bind.specs.Lookup.{scope_from};
 
-use crate::BindFault;
-use crate::Catalog;
 use crate::catalog::entries;
 use crate::factors::{Factor, where_factors};
 use crate::groups::is_grouped;
@@ -21,6 +19,7 @@ use crate::names::check_names;
 use crate::scope::Entry;
 use crate::star::fact_of;
 use crate::width::is_wide;
+use crate::{BindFault, Catalog};
 use blink_base::Refusal;
 use star_sql::Select;
 use std::alloc::{AllocError, Global};

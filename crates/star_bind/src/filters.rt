@@ -96,7 +96,11 @@ fn is_of_one_table(tables: &[usize], tests: &[&TestWords]) -> bool
 }
 
 // The tables whose columns a factor names.
-fn tables_in(alloc: Global, scope: &[Entry], tests: &[&TestWords]) -> Result<List<usize>, AllocError>
+fn tables_in(
+    alloc: Global,
+    scope: &[Entry],
+    tests: &[&TestWords],
+) -> Result<List<usize>, AllocError>
     ensures { IfOk result (λ tables. tables ≡ once_each (λ x y. x == y) (filter_map (table_named (scope_from scope.now)) (map (λ x. x.now) tests.now))) }
 {
     tables_of(alloc, scope, tests)
@@ -162,11 +166,7 @@ fn is_filter_of(
 }
 
 // Adds a factor where it is to be added.
-fn add_if<'a>(
-    filters: &mut Vec<Factor<'a>>,
-    factor: Factor<'a>,
-    is: bool,
-) -> Result<(), AllocError>
+fn add_if<'a>(filters: &mut Vec<Factor<'a>>, factor: Factor<'a>, is: bool) -> Result<(), AllocError>
     ensures { OnOk result (filters.new.items ≡ cond is (filters.old.items ++ factor.entry ∷ []) filters.old.items) }
 {
     if is {

@@ -75,7 +75,12 @@ fn found_at(found: Found, table: usize, entry: &Entry, name: &ColumnName) -> Fou
         return found;
     }
     let schema = entry.schema;
-    found_in(found, table, schema.columns.as_slice(), name.column.as_str())
+    found_in(
+        found,
+        table,
+        schema.columns.as_slice(),
+        name.column.as_str(),
+    )
 }
 
 // How many columns a name fits.

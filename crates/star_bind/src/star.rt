@@ -221,11 +221,7 @@ fn is_fact(
 }
 
 // The first table that is the fact of a star.
-fn first_fact(
-    alloc: Global,
-    scope: &[Entry],
-    joints: &[Joint],
-) -> Result<Option<usize>, AllocError>
+fn first_fact(alloc: Global, scope: &[Entry], joints: &[Joint]) -> Result<Option<usize>, AllocError>
     ensures { IfOk result (λ fact. fact ≡ find (joints_fact (scope_from scope.now) joints.now) (numbers_from 0 (length scope.now))) }
 {
     let count = scope.len();

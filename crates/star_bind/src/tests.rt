@@ -49,7 +49,10 @@ fn add_cond<'a>(cond: &'a Cond, tests: &mut Vec<&'a TestWords>) -> Result<(), Al
 }
 
 // The tests of a WHERE.
-pub(crate) fn where_tests(alloc: Global, condition: &Option<Cond>) -> Result<Vec<&TestWords>, AllocError>
+pub(crate) fn where_tests(
+    alloc: Global,
+    condition: &Option<Cond>,
+) -> Result<Vec<&TestWords>, AllocError>
     ensures { IfOk result (λ tests. map (λ x. x.now) tests.items ≡ where_tests condition.now) }
 {
     let mut tests = Vec::new(alloc);

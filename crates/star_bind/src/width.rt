@@ -30,11 +30,7 @@ fn is_table_wide(
 }
 
 // Whether the condition on some table has, among these factors.
-pub(crate) fn is_wide(
-    alloc: Global,
-    scope: &[Entry],
-    all: &[Factor],
-) -> Result<bool, AllocError>
+pub(crate) fn is_wide(alloc: Global, scope: &[Entry], all: &[Factor]) -> Result<bool, AllocError>
     requires { list_all (λ f. primary_is_good (primary_of f)) all.now ≡ true }
     ensures { IfOk result (λ wide. wide ≡ list_any (λ k. nat_lt MOST_CONJUNCTIONS (count_in (scope_from scope.now) (map primary_of all.now) k)) (numbers_from 0 (length scope.now))) }
 {

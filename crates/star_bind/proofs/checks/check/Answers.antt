@@ -1,5 +1,4 @@
-use Rattle.std.proofs.Common.{List, ap, sym, ◌∙◌}
-use Rattle.star_bind.specs.declared.scope.Entry.{Entry}
+use Rattle.std.proofs.Common.{ap, ◌∙◌}
 use Rattle.star_bind.specs.BindAnswer.{refusal_of}
 use Rattle.star_bind.specs.Lookup.{scope_from}
 use Rattle.star_bind.proofs.GoodnessLemmas.{select_formed}

@@ -16,8 +16,8 @@ loop-factor-preserved c =
     let q = λ (x : Factor). primary_is_good (primary_of x) in
     record {
       made = next_filter p c.loop-factor.filters.items c.add_if.new.filters.items (filter p (map primary_of c.args.factors.now)) c.args.factors.now c.loop-factor.factor-index c.factor-item.result c.in_ok-wanted.wanted
-      c.loop-factor-test.true c.factor-item.is c.in_ok-wanted.ensures c.in_ok-add_if.ensures c.loop-factor.invariant.made;
+          c.loop-factor-test.true c.factor-item.is c.in_ok-wanted.ensures c.in_ok-add_if.ensures c.loop-factor.invariant.made;
       good = next_kept q c.loop-factor.filters.items c.add_if.new.filters.items c.args.factors.now c.loop-factor.factor-index c.factor-item.result c.in_ok-wanted.wanted
-      c.loop-factor-test.true c.factor-item.is c.in_ok-add_if.ensures c.loop-factor.invariant.good c.loop-factor.invariant.left;
+          c.loop-factor-test.true c.factor-item.is c.in_ok-add_if.ensures c.loop-factor.invariant.good c.loop-factor.invariant.left;
       left = next_good q c.args.factors.now c.loop-factor.factor-index c.factor-item.result c.loop-factor-test.true c.factor-item.is c.loop-factor.invariant.left;
     }

@@ -1,4 +1,4 @@
-use Rattle.std.proofs.Common.{List, ℕ, ◌==◌, filter_map, map, length, not, ◌&&◌, sym, ap, ◌∙◌}
+use Rattle.std.proofs.Common.{List, ◌==◌, filter_map, map, length, not, ◌&&◌, ap, ◌∙◌}
 use Rattle.std.specs.Borrow.{Bor}
 use Rattle.std.specs.Prelude.{nat_le}
 use Rattle.std.specs.List.{list_any}

@@ -1,4 +1,4 @@
-use Rattle.std.proofs.Common.{List, ℕ, ◌==◌, filter_map, map, not, sym, ap, ◌∙◌}
+use Rattle.std.proofs.Common.{List, ◌==◌, filter_map, map, not, sym, ap, ◌∙◌}
 use Rattle.std.specs.Borrow.{Bor}
 use Rattle.std.specs.List.{list_all}
 use Rattle.blink_lists.specs.Lists.{once_each}

@@ -1,4 +1,4 @@
-use Rattle.std.proofs.Common.{◌≡◌, refl}
+use Rattle.std.proofs.Common.{refl}
 use Rattle.star_bind.specs.Lookup.{scope_from}
 use Rattle.star_bind.proofs.PartLemmas.{cond_made, group_made, good_conjs}
 use Rattle.star_bind.proofs.fold.+folding.Goals as goal
@@ -19,4 +19,3 @@ pub of_primary-returns-in-Group : goal.of_primary-returns-in-Group
 of_primary-returns-in-Group g t c =
     group_made (g.P.Part.of_test (scope_from c.args.scope.now)) g.P.Part.of_every g.P.Part.of_some c.of_cond.result c.args.primary.now c.inside.result.now c.in-Group.cond
     c.in-Group.is c.inside.ensures.value c.of_cond.ensures
-

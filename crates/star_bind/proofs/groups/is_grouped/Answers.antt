@@ -1,4 +1,4 @@
-use Rattle.std.proofs.Common.{List, Option, map, sym, ap, ◌∙◌}
+use Rattle.std.proofs.Common.{List, map, sym, ap, ◌∙◌}
 use Rattle.std.specs.Prelude.{option_map}
 use Rattle.std.specs.List.{list_all}
 use Rattle.star_sql.specs.declared.ast.ColumnName.{ColumnName}

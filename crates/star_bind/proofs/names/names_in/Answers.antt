@@ -1,4 +1,4 @@
-use Rattle.std.proofs.Common.{List, map, flat_map, refl, sym, ap, ◌∙◌}
+use Rattle.std.proofs.Common.{List, map, flat_map, sym, ap, ◌∙◌}
 use Rattle.std.specs.Borrow.{Bor}
 use Rattle.star_sql.specs.declared.ast.ColumnName.{ColumnName}
 use Rattle.star_sql.specs.declared.ast.Item.{Item}

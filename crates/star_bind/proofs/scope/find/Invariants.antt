@@ -1,5 +1,5 @@
 use Rattle.std.proofs.Common.{◌≡◌, map, drop}
-use Rattle.blink_lists.specs.Lists.{joined, numbered, numbered_from}
+use Rattle.blink_lists.specs.Lists.{joined, numbered_from}
 use Rattle.star_meaning.specs.Names.{places_in, places}
 use Rattle.star_bind.specs.Lookup.{scope_from, found_more, found_of}
 use Rattle.star_bind.proofs.scope.find.Given as goal

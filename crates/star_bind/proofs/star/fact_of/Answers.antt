@@ -2,7 +2,6 @@ use Rattle.std.proofs.Common.{List, map, ap, sym, ◌∙◌}
 use Rattle.star_bind.specs.declared.star.Joint.{Joint}
 use Rattle.star_bind.specs.FactorParts.{primary_of}
 use Rattle.star_bind.specs.Joints.{is_joint, pairs_of}
-use Rattle.star_bind.specs.Lookup.{scope_from}
 use Rattle.star_bind.proofs.JointLemmas.{fact_found}
 use Rattle.star_bind.proofs.star.fact_of.Goals as goal
 

@@ -1,4 +1,4 @@
-use Rattle.std.proofs.Common.{◌≡◌, ◌-◌, find, length}
+use Rattle.std.proofs.Common.{◌≡◌, ◌-◌, find}
 use Rattle.blink_lists.specs.Lists.{numbers_from}
 use Rattle.star_bind.specs.Joints.{joints_fact}
 use Rattle.star_bind.specs.Lookup.{scope_from}

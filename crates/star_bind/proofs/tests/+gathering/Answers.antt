@@ -1,4 +1,4 @@
-use Rattle.std.proofs.Common.{◌≡◌, map, sym, ◌∙◌, arith}
+use Rattle.std.proofs.Common.{map}
 use Rattle.star_bind.proofs.TestsLemmas.{cond_added, group_added}
 use Rattle.star_bind.proofs.tests.+gathering.Goals as goal
 
