@@ -7,6 +7,7 @@ use Rattle.std.specs.Option.{option_map_or}
 use Rattle.blink_base.specs.declared.test.Test.{Test}
 use Rattle.std.proofs.lemmas.Bool.{eqb-true}
 use Rattle.std.proofs.lemmas.List.{append-nil, drop_all}
+use Rattle.std.proofs.lemmas.List.Folds.{list_any-append}
 use Rattle.std.proofs.lemmas.List.Sums.{sum_by-cons}
 use Rattle.blink_lists.specs.Lists.{joined, once_each}
 use Rattle.star_sql.specs.declared.ast.Primary.{Primary}
@@ -33,14 +34,6 @@ filter-filter p q (x ∷ xs) = by (q x) (p x) refl (filter-filter p q xs)
     by true true e h = rw e (ap (λ ys. x ∷ ys) h)
     by true false e h = rw e h
     by false c e h = h
-
-any-append : (f : ℕ → Bool) (xs ys : List ℕ) → list_any f (xs ++ ys) ≡ (list_any f xs || list_any f ys)
-any-append f [] ys = refl
-any-append f (x ∷ xs) ys = by (f x) (any-append f xs ys)
-  where
-    by : (b : Bool) → list_any f (xs ++ ys) ≡ (list_any f xs || list_any f ys) → (b || list_any f (xs ++ ys)) ≡ ((b || list_any f xs) || list_any f ys)
-    by true e = refl
-    by false e = e
 
 -- not among these
 abbrev is_new : List ℕ → ℕ → Bool
@@ -69,7 +62,7 @@ once_is a (y ∷ ys) = by (λ c. once_is c ys) (list_any (λ x. x == y) a) refl
         ih (a ++ y ∷ [])
         ∙ append_assoc a (y ∷ []) (filter (is_new (a ++ y ∷ [])) (once_each (λ x y. x == y) ys))
         ∙ ap (λ zs. a ++ (y ∷ zs))
-        (ap (λ (p : ℕ → Bool). filter p (once_each (λ x y. x == y) ys)) (λ i z. (ap not (any-append (λ x. x == z) a (y ∷ [])) ∙ sym (same_new z (y == z) (list_any (λ x. x == z) a) refl refl)) i)
+        (ap (λ (p : ℕ → Bool). filter p (once_each (λ x y. x == y) ys)) (λ i z. (ap not (list_any-append (λ x. x == z) a (y ∷ [])) ∙ sym (same_new z (y == z) (list_any (λ x. x == z) a) refl refl)) i)
         ∙ sym (filter-filter (is_new a) (λ z. not (y == z)) (once_each (λ x y. x == y) ys)))
 
 filter-true : (xs : List ℕ) → filter (λ z. true) xs ≡ xs

@@ -2,6 +2,7 @@
 use Rattle.std.proofs.Common.{◌≡◌, ◌≢◌, ℤ, ℕ, Bool, true, false, not, ◌&&◌, ◌||◌, List, [], ◌∷◌, ◌++◌, Option, Some, None, Result, Err, refl, sym, ap, ◌∙◌}
 use Rattle.std.specs.Prelude.{is_none, is_ok, option_map, option_and_then}
 use Rattle.std.specs.List.{list_all, list_any}
+use Rattle.std.proofs.lemmas.List.Folds.{list_any-append}
 use Rattle.blink_lists.specs.Lists.{any_true, joined}
 use Rattle.blink_base.specs.declared.op.Op.{Op}
 use Rattle.blink_base.specs.declared.test.Test.TheVariants as test
@@ -72,14 +73,6 @@ among_refused b k w c ls e told = ap not (told ∙ all_there_if k ls) ∙ by (li
     by None = refl
     by (Some v) = refl
 
-any-append : (f : TestWords → Bool) (xs ys : List TestWords) → list_any f (xs ++ ys) ≡ (list_any f xs || list_any f ys)
-any-append f [] ys = refl
-any-append f (x ∷ xs) ys = by (f x) (any-append f xs ys)
-  where
-    by : (b : Bool) → list_any f (xs ++ ys) ≡ (list_any f xs || list_any f ys) → (b || list_any f (xs ++ ys)) ≡ ((b || list_any f xs) || list_any f ys)
-    by true e = refl
-    by false e = e
-
 module _ (f : TestWords → Bool) where
   abbrev IsSome : Bool → List TestWords → Type 0
   IsSome b tests = b ≡ list_any f tests
@@ -88,7 +81,7 @@ module _ (f : TestWords → Bool) where
   some_joined [] [] a = refl
   some_joined [] (y ∷ ys) a = absurd a
   some_joined (x ∷ xs) [] a = absurd a
-  some_joined (x ∷ xs) (y ∷ ys) a = (λ i. a.0 i || some_joined xs ys a.1 i) ∙ sym (any-append f y (joined ys))
+  some_joined (x ∷ xs) (y ∷ ys) a = (λ i. a.0 i || some_joined xs ys a.1 i) ∙ sym (list_any-append f y (joined ys))
 
   pub some_test : (cond : Cond) → of_cond f (λ b. b) any_true any_true cond ≡ list_any f (tests_of cond)
   some_test cond =

@@ -7,6 +7,7 @@ use Rattle.blink_base.specs.declared.refusal.Refusal.{Refusal}
 use Rattle.blink_base.specs.declared.refusal.Refusal.TheVariants.{UnknownColumn, AmbiguousColumn}
 use Rattle.blink_lists.specs.Lists.{joined, first_of}
 use Rattle.blink_lists.proofs.FindLemmas.{place-map}
+use Rattle.blink_lists.proofs.ProductLemmas.{filter-append}
 use Rattle.star_sql.specs.declared.ast.ColumnName.{ColumnName}
 use Rattle.star_sql.specs.declared.ast.TestWords.{TestWords}
 use Rattle.star_sql.specs.declared.ast.Cond.{Cond}
@@ -52,14 +53,6 @@ first-append (x ∷ xs) ys = refl
 pub first-map : {X Y : Type 0} (f : X → Y) (xs : List X) → first_of (map f xs) ≡ option_map f (first_of xs)
 first-map f [] = refl
 first-map f (x ∷ xs) = refl
-
-filter-append : {X : Type 0} (p : X → Bool) (xs ys : List X) → filter p (xs ++ ys) ≡ filter p xs ++ filter p ys
-filter-append p [] ys = refl
-filter-append p (x ∷ xs) ys = by (p x) (filter-append p xs ys)
-  where
-    by : (b : Bool) → filter p (xs ++ ys) ≡ filter p xs ++ filter p ys → cond b (x ∷ filter p (xs ++ ys)) (filter p (xs ++ ys)) ≡ cond b (x ∷ filter p xs) (filter p xs) ++ filter p ys
-    by true e = ap (λ zs. x ∷ zs) e
-    by false e = e
 
 -- the refusal of a name: of the first unknown name or key, and else of the first ambiguous name or key
 pub told_name : (scope : Scope) (s : Select)
