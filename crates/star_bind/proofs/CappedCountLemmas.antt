@@ -7,8 +7,8 @@ use Rattle.std.specs.Option.{option_map_or}
 use Rattle.blink_base.specs.declared.test.Test.{Test}
 use Rattle.std.proofs.lemmas.Bool.{eqb-true}
 use Rattle.std.proofs.lemmas.List.{append-nil, drop_all}
-use Rattle.std.proofs.lemmas.List.Folds.{list_any-append}
 use Rattle.std.proofs.lemmas.List.Sums.{sum_by-cons}
+use Rattle.std.proofs.lemmas.List.Folds.{list_any-append}
 use Rattle.blink_lists.specs.Lists.{joined, once_each}
 use Rattle.star_sql.specs.declared.ast.Primary.{Primary}
 use Rattle.star_sql.specs.declared.ast.ColumnName.{ColumnName}

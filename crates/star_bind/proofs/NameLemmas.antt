@@ -1,5 +1,5 @@
 -- The names of a condition are those of its tests.
-use Rattle.std.proofs.Common.{◌≡◌, ℕ, Bool, true, false, not, cond, ◌&&◌, List, [], ◌∷◌, ◌++◌, map, filter, flat_map, position, length, nat_lt, Option, Some, None, option_map, Result, subst, append_assoc, refl, sym, ap, ◌∙◌}
+use Rattle.std.proofs.Common.{◌≡◌, ℕ, Bool, not, cond, ◌&&◌, List, [], ◌∷◌, ◌++◌, map, filter, flat_map, position, length, nat_lt, Option, Some, None, option_map, Result, subst, append_assoc, refl, sym, ap, ◌∙◌}
 use Rattle.std.specs.Prelude.{is_none}
 use Rattle.std.specs.Option.{option_or, option_map_or}
 use Rattle.std.proofs.lemmas.List.{append-nil, length-map}
