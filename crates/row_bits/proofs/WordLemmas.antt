@@ -37,38 +37,21 @@ clear_behind words k le =
 
 -- ---- a search, word by word
 
-pub none_in_word : (words : List ℕ) (from at low : ℕ) → low ≡ from - at * 64 → ((k : ℕ) → from ≤ k → k < at * 64 → is_set words k ≡ false)
-    → ((b : ℕ) → low ≤ b → bit_at (get_or words at 0) b ≡ 0) → (k : ℕ) → from ≤ k → k < (at + 1) * 64 → is_set words k ≡ false
-none_in_word words from at low e before none k le lt =
+-- places up to a bit of a word that are alike: those before the word, and its bits
+pub alike_to_bit : (words : List ℕ) (same : Bool) (from at low bit : ℕ) → low ≡ from - at * 64 → bit ≤ 64 → ((k : ℕ) → from ≤ k → k < at * 64 → is_set words k ≡ same)
+    → ((b : ℕ) → low ≤ b → b < bit → (bit_at (get_or words at 0) b == 1) ≡ same) → (k : ℕ) → from ≤ k → k < at * 64 + bit → is_set words k ≡ same
+alike_to_bit words same from at low bit e within before bits k le lt =
     elim (cases_lt k (at * 64)) [
       | inl front ↦ before k le front
-      | inr here ↦ clear_here words at (k - at * 64) k (omega arith) (omega arith) (none (k - at * 64) (omega (arith, e, le)))
+      | inr here ↦ set_at words at (k - at * 64) k (omega arith) (omega arith) ∙ bits (k - at * 64) (omega (arith, e, le)) (omega arith)
     ]
 
-pub all_in_word : (words : List ℕ) (from at low : ℕ) → low ≡ from - at * 64 → ((k : ℕ) → from ≤ k → k < at * 64 → is_set words k ≡ true)
-    → ((b : ℕ) → low ≤ b → b < 64 → bit_at (get_or words at 0) b ≡ 1) → (k : ℕ) → from ≤ k → k < (at + 1) * 64 → is_set words k ≡ true
-all_in_word words from at low e before all k le lt =
-    elim (cases_lt k (at * 64)) [
-      | inl front ↦ before k le front
-      | inr here ↦ set_here words at (k - at * 64) k (omega arith) (omega arith) (all (k - at * 64) (omega (arith, e, le)) (omega arith))
-    ]
+-- a bit that is 1, and one that is 0
+pub one_bit : (v : ℕ) → v ≡ 1 → (v == 1) ≡ true
+one_bit v one = eq-eqb v 1 one
 
--- none up to a bit of the word, and all up to it
-pub none_to_bit : (words : List ℕ) (from at low bit : ℕ) → low ≡ from - at * 64 → bit < 64 → ((k : ℕ) → from ≤ k → k < at * 64 → is_set words k ≡ false)
-    → ((b : ℕ) → low ≤ b → b < bit → bit_at (get_or words at 0) b ≡ 0) → (k : ℕ) → from ≤ k → k < at * 64 + bit → is_set words k ≡ false
-none_to_bit words from at low bit e within before none k le lt =
-    elim (cases_lt k (at * 64)) [
-      | inl front ↦ before k le front
-      | inr here ↦ clear_here words at (k - at * 64) k (omega arith) (omega arith) (none (k - at * 64) (omega (arith, e, le)) (omega arith))
-    ]
-
-pub all_to_bit : (words : List ℕ) (from at low bit : ℕ) → low ≡ from - at * 64 → bit < 64 → ((k : ℕ) → from ≤ k → k < at * 64 → is_set words k ≡ true)
-    → ((b : ℕ) → low ≤ b → b < bit → bit_at (get_or words at 0) b ≡ 1) → (k : ℕ) → from ≤ k → k < at * 64 + bit → is_set words k ≡ true
-all_to_bit words from at low bit e within before all k le lt =
-    elim (cases_lt k (at * 64)) [
-      | inl front ↦ before k le front
-      | inr here ↦ set_here words at (k - at * 64) k (omega arith) (omega arith) (all (k - at * 64) (omega (arith, e, le)) (omega arith))
-    ]
+pub zero_bit : (v : ℕ) → v ≡ 0 → (v == 1) ≡ false
+zero_bit v none = ne_eqb v 1 (λ one. omega arith)
 
 pub none_to_end : (words : List ℕ) (from to : ℕ) → length words * 64 ≤ to → ((k : ℕ) → from ≤ k → k < to → is_set words k ≡ false) → (k : ℕ) → from ≤ k → is_set words k ≡ false
 none_to_end words from to end before k le =
