@@ -76,18 +76,22 @@ once-append : (a xs ys : List ℕ) → add_once a (xs ++ ys) ≡ add_once (add_o
 once-append a [] ys = refl
 once-append a (x ∷ xs) ys = once-append (with_column a x) xs ys
 
-pub next_columns : (all more whole cols : List ℕ) (parts : List Count) (i : ℕ) (x : Count) → i < length parts → x ≡ get_or parts i x → cols ≡ x.columns → more ≡ add_once all cols
-    → add_once all (joined (map (λ (p : Count). p.columns) (drop i parts))) ≡ whole → add_once more (joined (map (λ (p : Count). p.columns) (drop (i + 1) parts))) ≡ whole
-next_columns all more whole cols parts i x lt is e told so_far =
-    let rest = joined (map (λ (p : Count). p.columns) (drop (i + 1) parts)) in
-    let here : drop i parts ≡ x ∷ drop (i + 1) parts = rw (add-one, drop-cons parts i x) (ap (λ (y : Count). y ∷ drop (suc i) parts) (sym is)) in
-    ap (λ (a : List ℕ). add_once a rest) (told ∙ ap (add_once all) e) ∙ sym (once-append all x.columns rest)
-    ∙ ap (λ (ps : List Count). add_once all (joined (map (λ (p : Count). p.columns) ps))) (sym here) ∙ so_far
+pub next_columns : {X : Type 0} (names : X → List ℕ) (all more whole cols : List ℕ) (parts : List X) (i : ℕ) (x : X) → i < length parts → x ≡ get_or parts i x → cols ≡ names x → more ≡ add_once all cols
+    → add_once all (joined (map names (drop i parts))) ≡ whole → add_once more (joined (map names (drop (i + 1) parts))) ≡ whole
+next_columns {X} names all more whole cols parts i x lt is e told so_far =
+    let rest = joined (map names (drop (i + 1) parts)) in
+    let here : drop i parts ≡ x ∷ drop (i + 1) parts = rw (add-one, drop-cons parts i x) (ap (λ (y : X). y ∷ drop (suc i) parts) (sym is)) in
+    ap (λ (a : List ℕ). add_once a rest) (told ∙ ap (add_once all) e) ∙ sym (once-append all (names x) rest)
+    ∙ ap (λ (ps : List X). add_once all (joined (map names ps))) (sym here) ∙ so_far
 
-pub all_columns : (all : List ℕ) (parts : List Count) (i : ℕ) → length parts ≤ i
-    → add_once all (joined (map (λ (p : Count). p.columns) (drop i parts))) ≡ add_once [] (joined (map (λ (p : Count). p.columns) parts)) → all ≡ count_columns parts
-all_columns all parts i le so_far =
-    ap (λ (ps : List Count). add_once all (joined (map (λ (p : Count). p.columns) ps))) (sym (drop_all i parts le)) ∙ so_far ∙ once_each_is (joined (map (λ (p : Count). p.columns) parts))
+pub all_columns : {X : Type 0} (names : X → List ℕ) (all : List ℕ) (parts : List X) (i : ℕ) → length parts ≤ i
+    → add_once all (joined (map names (drop i parts))) ≡ add_once [] (joined (map names parts)) → all ≡ once_each (λ x y. x == y) (joined (map names parts))
+all_columns {X} names all parts i le so_far =
+    ap (λ (ps : List X). add_once all (joined (map names ps))) (sym (drop_all i parts le)) ∙ so_far ∙ once_each_is (joined (map names parts))
+
+-- the numbers of a list, gathered one behind the other
+pub all_numbers : {X : Type 0} (f : X → ℕ) (all : List ℕ) (xs : List X) (i : ℕ) → length xs ≤ i → add_once all (map f (drop i xs)) ≡ add_once [] (map f xs) → all ≡ once_each (λ x y. x == y) (map f xs)
+all_numbers {X} f all xs i le so_far = ap (λ (ys : List X). add_once all (map f ys)) (sym (drop_all i xs le)) ∙ so_far ∙ once_each_is (map f xs)
 
 -- a count is capped
 abbrev pub IsCapped : Count → Counted → Type 0

@@ -16,7 +16,6 @@ use Rattle.star_bind.specs.Checks.{IsChecked, is_why}
 use Rattle.star_bind.specs.BindAnswer.{refusal_of}
 use Rattle.star_bind.specs.Factors.{factors}
 use Rattle.star_bind.specs.Lookup.{scope_from}
-use Rattle.star_bind.proofs.WidthLemmas.{is_table_wide, wide_is}
 
 -- a fault of the first is the first fault
 pub first_why : (w a b : Option Refusal) → is_why w a → is_why w (option_or a b)
@@ -35,11 +34,6 @@ then_checked (Err why) a b e h = by (refusal_of why) h
 pub last_checked : {X : Type 0} (r : Result X BindFault) (a : Option Refusal) → IsChecked r a → IsChecked r (first_some (a ∷ []))
 last_checked r None h = h
 last_checked r (Some x) h = h
-
-pub query_wide : {E : Type 0} (r : Result Bool E) (entries : List Entry) (s : Select) (fs : List Primary) → fs ≡ factors s.condition
-    → IfOk r (λ wide. wide ≡ list_any (is_table_wide (scope_from entries) fs) (numbers_from 0 (length entries))) → IfOk r (λ wide. wide ≡ is_wide (scope_from entries) s)
-query_wide (Ok wide) entries s fs e told = told ∙ wide_is entries s fs e
-query_wide (Err why) entries s fs e told = tt
 
 -- what the tables tell is the first
 pub tables_why : (w : Option Refusal) (schemas : Schemas) (s : Select) (tables : List (List ℕ)) → tables ≡ s.tables

@@ -1,4 +1,5 @@
 pub mod AcceptanceLemmas
+pub mod BranchLemmas
 pub mod CapLemmas
 pub mod CappedCountLemmas
 pub mod CheckLemmas
@@ -19,10 +20,13 @@ pub mod LiteralLemmas
 pub mod LookupLemmas
 pub mod NameLemmas
 pub mod PartLemmas
+pub mod PlaceLemmas
+pub mod QueryLemmas
 pub mod StarLemmas
 pub mod TableLemmas
 pub mod TableNameLemmas
 pub mod TestsLemmas
 pub mod TieLemmas
+pub mod TokenCountLemmas
 pub mod WhereLemmas
 pub mod WidthLemmas

@@ -15,7 +15,7 @@ use Rattle.star_sql.specs.declared.ast.Item.{Item}
 use Rattle.star_sql.specs.declared.ast.Select.{Select}
 use Rattle.star_meaning.specs.Names.{Scope, ColumnPlace, place_of, name_text}
 use Rattle.star_meaning.specs.NameRefusals.{test_names, cond_names, names_in, column_keys, is_unknown, is_ambiguous, is_unknown_key, unknown_names, ambiguous_names, name_refusal}
-use Rattle.star_meaning.specs.Answer.{is_place, item_place}
+use Rattle.star_meaning.specs.Answer.{is_place, item_place, column_item}
 use Rattle.star_bind.specs.declared.scope.Place.{Place}
 use Rattle.star_bind.specs.Lookup.{place_in, is_same_place, index_of, is_lost}
 use Rattle.star_bind.specs.declared.fault.BindFault.{BindFault}
@@ -70,22 +70,26 @@ position-map p f xs =
     let long : length (map f xs) ≡ length xs = simp length-map in
     λ i. cond (nat_lt (place-map f p xs i) (long i)) (Some (place-map f p xs i)) None
 
--- a key is lost among the columns that items are where it is unknown
-pub lost_is_unknown : (scope : Scope) (s : Select) (places : List (Option Place)) (c : ColumnName) → places ≡ map (λ i. option_map place_in (item_place scope i)) s.items
-    → is_lost scope places c ≡ is_unknown_key scope s c
-lost_is_unknown scope s places c e =
-    ap (λ (ps : List (Option Place)). not (is_ambiguous scope c) && is_none (index_of ps (option_map place_in (place_of scope c)))) e
-    ∙ ap (λ (o : Option ℕ). not (is_ambiguous scope c) && is_none o) (index_is (place_of scope c))
+-- the first of the columns that items are that a name means is the item that it means
+pub column_told : (scope : Scope) (items : List Item) (places : List (Option Place)) (c : ColumnName) → places ≡ map (λ i. option_map place_in (item_place scope i)) items
+    → index_of places (option_map place_in (place_of scope c)) ≡ column_item scope items c
+column_told scope items places c e =
+    ap (λ (ps : List (Option Place)). index_of ps (option_map place_in (place_of scope c))) e ∙ index_is (place_of scope c)
   where
     same_is : (p : ColumnPlace) (o : Option ColumnPlace) → is_same_place (place_in p) (option_map place_in o) ≡ is_place p o
     same_is p None = refl
     same_is p (Some q) = refl
 
-    index_is : (o : Option ColumnPlace) → index_of (map (λ i. option_map place_in (item_place scope i)) s.items) (option_map place_in o) ≡ option_map_or (λ p. position (λ i. is_place p (item_place scope i)) s.items) o None
+    index_is : (o : Option ColumnPlace) → index_of (map (λ i. option_map place_in (item_place scope i)) items) (option_map place_in o) ≡ option_map_or (λ p. position (λ i. is_place p (item_place scope i)) items) o None
     index_is None = refl
     index_is (Some p) =
-        position-map (is_same_place (place_in p)) (λ i. option_map place_in (item_place scope i)) s.items
-        ∙ ap (λ (t : Item → Bool). position t s.items) (λ j i. same_is p (item_place scope i) j)
+        position-map (is_same_place (place_in p)) (λ i. option_map place_in (item_place scope i)) items
+        ∙ ap (λ (t : Item → Bool). position t items) (λ j i. same_is p (item_place scope i) j)
+
+-- a key is lost among the columns that items are where it is unknown
+pub lost_is_unknown : (scope : Scope) (s : Select) (places : List (Option Place)) (c : ColumnName) → places ≡ map (λ i. option_map place_in (item_place scope i)) s.items
+    → is_lost scope places c ≡ is_unknown_key scope s c
+lost_is_unknown scope s places c e = ap (λ (o : Option ℕ). not (is_ambiguous scope c) && is_none o) (column_told scope s.items places c e)
 
 -- what lists of names and keys tell is what the query is refused for
 pub told_lists : (scope : Scope) (s : Select) (places : List (Option Place)) (names keys : List ColumnName) → places ≡ map (λ i. option_map place_in (item_place scope i)) s.items

@@ -27,7 +27,7 @@ columns-at c t entry from (column ∷ columns) = by (is_meant c.table entry && b
     by true more = (refl, more)
     by false more = more
 
-each-weaker : {X : Type 0} (P Q : X → Type 0) → ((x : X) → P x → Q x) → (xs : List X) → Each P xs → Each Q xs
+pub each-weaker : {X : Type 0} (P Q : X → Type 0) → ((x : X) → P x → Q x) → (xs : List X) → Each P xs → Each Q xs
 each-weaker P Q h [] e = tt
 each-weaker P Q h (x ∷ xs) e = (h x e.0, each-weaker P Q h xs e.1)
 

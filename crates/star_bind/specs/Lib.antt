@@ -1,5 +1,7 @@
 pub mod BindAnswer
+pub mod BoundAnswer
 pub mod BoundQuery
+pub mod Branches
 pub mod CappedCounts
 pub mod Caps
 pub mod Checks
@@ -14,5 +16,7 @@ pub mod Joints
 pub mod Laws
 pub mod Lookup
 pub mod Preconditions
+pub mod QueryParts
+pub mod QueryShape
 pub mod StarForm
 pub mod WrongKind

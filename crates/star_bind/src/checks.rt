@@ -11,7 +11,7 @@ ghost use Rattle.star_bind.specs.FactorParts.{primary_of};
 ghost use Rattle.star_bind.specs.Factors.{factors};
 ghost use Rattle.star_bind.specs.Lookup.{scope_from};
 
-use crate::catalog::entries;
+use crate::BindFault;
 use crate::factors::{Factor, where_factors};
 use crate::groups::is_grouped;
 use crate::kinds::has_wrong_kind;
@@ -19,24 +19,9 @@ use crate::names::check_names;
 use crate::scope::Entry;
 use crate::star::fact_of;
 use crate::width::is_wide;
-use crate::{BindFault, Catalog};
 use blink_base::Refusal;
 use star_sql::Select;
 use std::alloc::{AllocError, Global};
-
-// Whether some table's condition has more conjunctions than it may.
-fn is_query_wide(
-    alloc: Global,
-    scope: &[Entry],
-    select: &Select,
-    all: &[Factor],
-) -> Result<bool, AllocError>
-    requires factors { map primary_of all.now ≡ factors select.now.condition }
-    requires good { list_all (λ f. primary_is_good (primary_of f)) all.now ≡ true }
-    ensures { IfOk result (λ wide. wide ≡ is_wide (scope_from scope.now) select.now) }
-{
-    is_wide(alloc, scope, all)
-}
 
 // Refuses kinds that don't go together.
 fn check_kinds(alloc: Global, scope: &[Entry], select: &Select) -> Result<(), BindFault>
@@ -86,7 +71,7 @@ fn check_width(
     requires good { list_all (λ f. primary_is_good (primary_of f)) all.now ≡ true }
     ensures { IsChecked result (refused_if (is_wide (scope_from scope.now) select.now) Refusal.TooManyConjunctions) }
 {
-    if is_query_wide(alloc, scope, select, all)? {
+    if is_wide(alloc, scope, all)? {
         return Err(BindFault::Wide);
     }
     Ok(())
@@ -138,31 +123,4 @@ pub(crate) fn check_scope(
     check_kinds(alloc, scope, select)?;
     let all = where_factors(alloc, &select.condition)?;
     check_form(alloc, scope, select, all.as_slice())
-}
-
-// Refuses what is no query over these FROM entries.
-fn check_entries(alloc: Global, scope: &[Entry], select: &Select) -> Result<(), BindFault>
-    requires { where_formed select.now.condition ≡ true }
-    ensures { IsChecked result (scope_refusal (scope_from scope.now) select.now) }
-{
-    check_scope(alloc, scope, select)?;
-    Ok(())
-}
-
-/// Whether a SELECT is a query of the tables that are there, or its first refusal.
-///
-/// The refusals are asked for in this order: a table of FROM that isn't there, the first in the order of the text; a name
-/// that fits no column, or a key of ORDER BY that is no item, and else a name or key that fits several columns; kinds that
-/// don't go together; a query that is no star; items that aren't grouped; and a table's condition of more than
-/// [`MOST_CONJUNCTIONS`](crate::MOST_CONJUNCTIONS) conjunctions, which are counted and not made. Each comes exactly where
-/// it is the first; [`BindFault::Memory`] alone is free. The statement is well formed. Source: ISO/IEC 9075 (query
-/// expressions, name scoping); the star form, the bound on conjunctions and the order of refusals are this project's own.
-pub fn check<C: Catalog>(alloc: Global, catalog: &C, select: &Select) -> Result<(), BindFault>
-    requires { IsTrue (is_select select.now) }
-    ensures { IsChecked result (first_refusal (C.schemas catalog.now) select.now) }
-{
-    match entries(alloc, catalog, select.tables.as_slice()) {
-        Ok(scope) => check_entries(alloc, scope.as_slice(), select),
-        Err(why) => Err(why),
-    }
 }

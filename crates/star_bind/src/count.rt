@@ -1,20 +1,21 @@
 // How many conjunctions a condition has, before any is made.
 ghost use Rattle.std.specs.Prelude.{true, ◌≡◌, ◌+◌, ◌*◌, ◌==◌, OnOk, IfOk, map};
 ghost use Rattle.std.specs.List.{list_any, list_all};
-ghost use Rattle.blink_lists.specs.Lists.{joined};
+ghost use Rattle.blink_lists.specs.Lists.{joined, once_each};
 ghost use Rattle.star_bind.specs.Caps.{capped};
 ghost use Rattle.star_bind.specs.Counts.{and_count, factor_count};
 ghost use Rattle.star_bind.specs.Checks.{primary_is_good};
 ghost use Rattle.star_bind.specs.FactorParts.{primary_of};
 ghost use Rattle.star_bind.specs.Lookup.{scope_from};
-ghost use Rattle.star_bind.specs.CappedCounts.{with_column, add_once, sum_from, product_from, count_of, count_columns, count_test};
+ghost use Rattle.star_bind.specs.CappedCounts.{with_column, add_once, sum_from, product_from, count_of, count_test};
 
 use crate::MOST_CONJUNCTIONS;
+use crate::columns::{HasColumns, columns_in};
+use crate::condition_tests::column_of;
 use crate::factors::Factor;
 use crate::fold::{Part, of_factors};
 use crate::kinds::refuses;
 use crate::scope::{Entry, kind_at, place_of};
-use crate::tests::column_of;
 use blink_base::List;
 use star_sql::TestWords;
 use std::alloc::{AllocError, Global};
@@ -25,44 +26,6 @@ use std::alloc::{AllocError, Global};
 pub(crate) struct Count {
     pub(crate) columns: List<usize>,
     pub(crate) number: usize,
-}
-
-// Whether a column is among these.
-fn has(columns: &[usize], column: usize) -> bool
-    ensures { result ≡ list_any (λ x. x == column) columns.now }
-{
-    columns.iter().any(|x| *x == column)
-}
-
-// Adds a column where it isn't there yet.
-pub(crate) fn add_column(all: &mut List<usize>, column: usize) -> Result<(), AllocError>
-    ensures { OnOk result (all.new ≡ with_column all.old column) }
-{
-    if has(all.as_slice(), column) {
-        return Ok(());
-    }
-    all.push(column)
-}
-
-// Adds the columns that aren't there yet.
-fn add_columns(all: &mut List<usize>, more: &[usize]) -> Result<(), AllocError>
-    ensures { OnOk result (all.new ≡ add_once all.old more.now) }
-{
-    for column in more {
-        add_column(all, *column)?;
-    }
-    Ok(())
-}
-
-// The columns of several parts, each once.
-fn columns_in(alloc: Global, parts: &[Count]) -> Result<List<usize>, AllocError>
-    ensures { IfOk result (λ columns. columns ≡ count_columns parts.now) }
-{
-    let mut all = List::new(alloc);
-    for part in parts {
-        add_columns(&mut all, part.columns.as_slice())?;
-    }
-    Ok(all)
 }
 
 // A sum, capped.
@@ -107,6 +70,14 @@ fn count_of(columns: List<usize>, number: usize) -> Count
 {
     let number = if columns.len() == 1 { 1 } else { number };
     Count { columns, number }
+}
+
+impl HasColumns for Count {
+    ghost names = { λ c. c.columns };
+
+    fn columns(&self) -> &List<usize> {
+        &self.columns
+    }
 }
 
 impl Part for Count {

@@ -10,10 +10,10 @@ ghost use Rattle.star_bind.specs.Checks.{primary_is_good};
 ghost use Rattle.star_bind.specs.FactorParts.{primary_of, table_named, tables_named, with_table};
 ghost use Rattle.star_bind.specs.Lookup.{scope_from};
 
-use crate::count::add_column;
+use crate::columns::add_column;
+use crate::condition_tests::{column_of, factor_tests};
 use crate::factors::Factor;
 use crate::scope::{Entry, place_of};
-use crate::tests::{column_of, factor_tests};
 use blink_base::List;
 use star_sql::TestWords;
 use std::alloc::{AllocError, Global};

@@ -29,7 +29,7 @@ fn has_aggregate(items: &[Item]) -> bool
 }
 
 // Whether GROUP BY stands there.
-fn has_groups(select: &Select) -> bool
+pub(crate) fn has_groups(select: &Select) -> bool
     ensures { result ≡ has_groups select.now }
 {
     select.groups.len() > 0

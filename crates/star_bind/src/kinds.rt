@@ -9,8 +9,8 @@ ghost use Rattle.star_bind.specs.WrongKind.{kind_named, kinds_differ, refuses_wo
 ghost use Rattle.star_bind.specs.Lookup.{scope_from};
 ghost use Rattle.star_bind.specs.Checks.{where_tests};
 
+use crate::condition_tests::where_tests;
 use crate::scope::{Entry, kind_at, place_of};
-use crate::tests::where_tests;
 use blink_base::{Kind, LONGEST_TEXT, Value, Word};
 use star_sql::{ColumnName, Expr, Item, Literal, Select, TestWords, What};
 use std::alloc::{AllocError, Global};
@@ -93,7 +93,7 @@ fn may_both_stand(alloc: Global, kind: Kind, low: &Literal, high: &Literal) -> b
 }
 
 // Whether no byte is % or _.
-fn has_no_wildcard(bytes: &[u8]) -> bool
+pub(crate) fn has_no_wildcard(bytes: &[u8]) -> bool
     ensures { result ≡ list_all (λ c. not (is_wildcard c)) bytes.now }
 {
     bytes.iter().all(|b| *b != b'%' && *b != b'_')

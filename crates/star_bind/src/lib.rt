@@ -1,11 +1,18 @@
 //! What a SELECT means over the tables that are there: names as places, the star form, and conditions as conjunctions.
 //!
-//! [`check`] answers the first refusal of a SELECT. The definitions of the query that an accepted one is, and the laws on
-//! its conjunctions and its star joins, stand in `specs` and [`laws`].
+//! [`bind`] answers the query that a SELECT is, with its names resolved, or its first refusal. The laws on its conjunctions
+//! and its star joins stand in [`laws`].
 #![tactic(auto)]
 
+mod binding;
+mod bound_names;
+mod branch;
 mod catalog;
 mod checks;
+mod columns;
+mod condition_tests;
+mod conjunctions;
+mod copies;
 mod count;
 pub mod examples;
 mod factors;
@@ -16,15 +23,20 @@ mod groups;
 mod kinds;
 pub mod laws;
 mod limits;
+mod literals;
+mod merged;
 mod names;
+mod printed_names;
 mod query;
 mod scope;
+mod spread;
 mod star;
-mod tests;
+mod ties;
 mod width;
 
+pub use binding::bind;
 pub use catalog::Catalog;
-pub use checks::check;
 pub use fault::BindFault;
 pub use limits::MOST_CONJUNCTIONS;
+pub use literals::literal_value;
 pub use query::{BoundExpr, BoundItem, BoundOrder, ColumnRef, ColumnTest, Conjunction, Query, Tie};

@@ -10,8 +10,8 @@ ghost use Rattle.star_bind.specs.BindAnswer.{refusal_of};
 ghost use Rattle.star_bind.specs.Checks.{IsChecked, is_why, names_told};
 
 use crate::BindFault;
+use crate::condition_tests::where_tests;
 use crate::scope::{Entry, Place, is_ambiguous, is_unknown, place_of};
-use crate::tests::where_tests;
 use blink_base::{Refusal, Word};
 use star_sql::{ColumnName, Expr, Item, OrderKey, Select, TestWords, What};
 use std::alloc::{AllocError, Global};
@@ -254,7 +254,7 @@ fn first_unknown_key<'a>(
 }
 
 // A name as it is printed.
-fn name_text(alloc: Global, name: &ColumnName) -> Result<Word, AllocError>
+pub(crate) fn name_text(alloc: Global, name: &ColumnName) -> Result<Word, AllocError>
     ensures { IfOk result (λ word. word ≡ name_text name.now) }
 {
     let Some(table) = &name.table else {
