@@ -1,4 +1,5 @@
 pub mod AcceptanceLemmas
+pub mod BoundAnswerLemmas
 pub mod BranchLemmas
 pub mod CapLemmas
 pub mod CappedCountLemmas

@@ -4,6 +4,7 @@ ghost use Rattle.star_bind.specs.Laws.{KeptPerFactRow, FactorsMeet, FactorsAreCo
 ghost use Rattle.star_bind.specs.Joins.{JoinsByKeys};
 ghost use Rattle.star_bind.specs.Counts.{ConjunctionsCounted};
 ghost use Rattle.star_bind.specs.Caps.{CapsCompose};
+ghost use Rattle.star_bind.specs.BoundAnswer.{AnswersAsBound};
 
 /// A factor whose tests are all of one table is true of a row exactly where the row passes some conjunction of it. Source:
 /// this project's own.
@@ -54,4 +55,10 @@ pub fn kept_per_fact_row()
 /// WHERE clauses); the star form is this project's own.
 pub fn joins_by_keys()
     ensures { JoinsByKeys }
+{}
+
+/// The answer to a query that is accepted is that of the bound query: its items, names, groups, order and limit over the
+/// combinations that are kept. Source: ISO/IEC 9075 (query expressions).
+pub fn answers_as_bound()
+    ensures { AnswersAsBound }
 {}
