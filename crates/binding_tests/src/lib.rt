@@ -1,5 +1,10 @@
-//! Tests of names, the star form and conjunctions: what refuses a SELECT. It has no code of its own.
+//! Tests of names, the star form and conjunctions: the query that a SELECT is bound to, and what refuses it. It has no code
+//! of its own.
 #![tactic(auto)]
 
 #[cfg(test)]
+mod bound_queries;
+#[cfg(test)]
 mod refusals;
+#[cfg(test)]
+mod tables;

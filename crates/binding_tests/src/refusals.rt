@@ -1,89 +1,16 @@
 // Statements, and the first refusal of each.
-ghost use Rattle.std.specs.Prelude.{Some, None, codes, if◌then◌else◌};
-ghost use Rattle.std.specs.Str.{bytes_eq};
-
-use blink_base::{Column, Kind, List, Schema, Word};
-use star_bind::{BindFault, Catalog, check};
-use star_lex::tokens;
-use star_sql::{Statement, parse};
+use crate::tables::bound;
+use star_bind::BindFault;
 use std::alloc::{AllocError, Global};
 use std::test::Fail;
 
-// Tables p (a, b), u (a, b text), d (k key, n text), e (j key, m) and f (fk, gk, v).
-#[derive(Drop)]
-struct Tables {
-    p: Schema,
-    u: Schema,
-    d: Schema,
-    e: Schema,
-    f: Schema,
-}
-
-impl Catalog for Tables {
-    ghost schemas = { λ s name. if bytes_eq name (codes "p") then Some s.p else (if bytes_eq name (codes "u") then Some s.u else (if bytes_eq name (codes "d") then Some s.d else (if bytes_eq name (codes "e") then Some s.e else (if bytes_eq name (codes "f") then Some s.f else None)))) };
-
-    fn find(&self, name: &str) -> Option<&Schema> {
-        if name == "p" {
-            return Some(&self.p);
-        }
-        if name == "u" {
-            return Some(&self.u);
-        }
-        if name == "d" {
-            return Some(&self.d);
-        }
-        if name == "e" {
-            return Some(&self.e);
-        }
-        if name == "f" {
-            return Some(&self.f);
-        }
-        None
-    }
-}
-
-fn schema(alloc: Global, columns: &[(&str, Kind)], key: Option<u32>) -> Result<Schema, AllocError> {
-    let mut list = List::new(alloc);
-    for (name, kind) in columns {
-        list.push(Column {
-            name: Word::from_str(alloc, name)?,
-            kind: *kind,
-        })?;
-    }
-    Ok(Schema { columns: list, key })
-}
-
-fn all_tables(alloc: Global) -> Result<Tables, AllocError> {
-    Ok(Tables {
-        p: schema(alloc, &[("a", Kind::Int), ("b", Kind::Int)], None)?,
-        u: schema(alloc, &[("a", Kind::Int), ("b", Kind::Text)], None)?,
-        d: schema(alloc, &[("k", Kind::Int), ("n", Kind::Text)], Some(0))?,
-        e: schema(alloc, &[("j", Kind::Int), ("m", Kind::Int)], Some(0))?,
-        f: schema(
-            alloc,
-            &[("fk", Kind::Int), ("gk", Kind::Int), ("v", Kind::Int)],
-            None,
-        )?,
-    })
-}
-
 // What refuses a statement, with the name that it tells; "ok" where nothing does.
 fn told(alloc: Global, text: &str) -> Result<String, AllocError> {
-    if text.len() > 2000 {
-        return String::from_str(alloc, "too long");
-    }
-    let Ok(list) = tokens(alloc, text.as_bytes()) else {
-        return String::from_str(alloc, "no tokens");
-    };
-    let Ok(statement) = parse(alloc, &list) else {
-        return String::from_str(alloc, "no statement");
-    };
-    let Statement::Select(select) = statement else {
+    let Some(answer) = bound(alloc, text)? else {
         return String::from_str(alloc, "no query");
     };
-    let tables = all_tables(alloc)?;
-    match check(alloc, &tables, &select) {
-        Ok(()) => String::from_str(alloc, "ok"),
+    match answer {
+        Ok(_) => String::from_str(alloc, "ok"),
         Err(BindFault::UnknownTable(name)) => format!(in alloc; "unknown table {}", name.as_str()),
         Err(BindFault::UnknownColumn(name)) => format!(in alloc;
             "unknown column {}",
@@ -141,8 +68,8 @@ const QUERIES: [(&str, &str); 35] = [
 ];
 
 // Statements in three parts, of which the second stands so many times, and what refuses each: 64 and 65 conjunctions, items
-// that aren't grouped over 65, and 60 factors of two columns.
-const WIDE: [(&str, &str, u32, &str, &str); 4] = [
+// that aren't grouped over 65, and 6, 7 and 60 factors of two columns.
+const WIDE: [(&str, &str, u32, &str, &str); 6] = [
     (
         "SELECT a FROM p WHERE a=1",
         " OR b=1 OR a=2",
@@ -163,6 +90,20 @@ const WIDE: [(&str, &str, u32, &str, &str); 4] = [
         32,
         "",
         "not grouped",
+    ),
+    (
+        "SELECT a FROM p WHERE (a = 1 OR b = 1)",
+        " AND (a = 1 OR b = 1)",
+        5,
+        "",
+        "ok",
+    ),
+    (
+        "SELECT a FROM p WHERE (a = 1 OR b = 1)",
+        " AND (a = 1 OR b = 1)",
+        6,
+        "",
+        "too many conjunctions",
     ),
     (
         "SELECT a FROM p WHERE (a=1 OR b=1)",

@@ -65,7 +65,7 @@ line-same : (scope : Scope) (items : List Item) (group : List Combination) → l
 line-same scope [] group h = refl
 line-same scope (item ∷ items) group h =
     let p = and_parts (list_all (is_known scope) (item_names item.what)) (list_all (is_known scope) (flat_map (λ i. item_names i.what) items))
-        (sym (list_all-append (is_known scope) (item_names item.what) (flat_map (λ i. item_names i.what) items)) ∙ h) in
+    (sym (list_all-append (is_known scope) (item_names item.what) (flat_map (λ i. item_names i.what) items)) ∙ h) in
     λ i. item-same scope item.what group p.0 i ∷ line-same scope items group p.1 i
 
 key-same : (scope : Scope) (columns : List ColumnName) (rows : Combination) → list_all (is_known scope) columns ≡ true → bound_key (map (meant scope) columns) rows ≡ key_of scope columns rows

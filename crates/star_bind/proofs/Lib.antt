@@ -22,7 +22,9 @@ pub mod LookupLemmas
 pub mod NameLemmas
 pub mod PartLemmas
 pub mod PlaceLemmas
+pub mod PositiveCountLemmas
 pub mod QueryLemmas
+pub mod QueryShapeLemmas
 pub mod StarLemmas
 pub mod TableLemmas
 pub mod TableNameLemmas

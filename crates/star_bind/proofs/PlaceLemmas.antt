@@ -86,6 +86,7 @@ module _ (scope : Scope) (fact : ℕ) (P : ColumnPlace → Type 0) (named : (c :
     pub own_named : P own
     pub other_named : P other
     pub of_fact : own.table ≡ fact
+    pub away : not (other.table == fact) ≡ true
     pub key : is_key scope other ≡ true
     pub is : t ≡ record { dimension = other.table; column = own.column }
 
@@ -97,7 +98,7 @@ module _ (scope : Scope) (fact : ℕ) (P : ColumnPlace → Type 0) (named : (c :
           let a = and_parts (own.table == fact && not (other.table == fact) && is_key scope other) (is_equality o) e in
           let b = and_parts (own.table == fact && not (other.table == fact)) (is_key scope other) a.0 in
           let c = and_parts (own.table == fact) (not (other.table == fact)) b.0 in
-          (record { own = own; other = other; own_named = p; other_named = q; of_fact = eqb-true own.table fact c.0; key = b.1; is = refl }, tt)
+          (record { own = own; other = other; own_named = p; other_named = q; of_fact = eqb-true own.table fact c.0; away = c.1; key = b.1; is = refl }, tt)
       by false e = tt
 
   abbrev AreNamed : ColumnPair → Type 0

@@ -5,6 +5,7 @@ ghost use Rattle.star_bind.specs.Joins.{JoinsByKeys};
 ghost use Rattle.star_bind.specs.Counts.{ConjunctionsCounted};
 ghost use Rattle.star_bind.specs.Caps.{CapsCompose};
 ghost use Rattle.star_bind.specs.BoundAnswer.{AnswersAsBound};
+ghost use Rattle.star_bind.specs.QueryShape.{QueriesHaveShape};
 
 /// A factor whose tests are all of one table is true of a row exactly where the row passes some conjunction of it. Source:
 /// this project's own.
@@ -61,4 +62,11 @@ pub fn joins_by_keys()
 /// combinations that are kept. Source: ISO/IEC 9075 (query expressions).
 pub fn answers_as_bound()
     ensures { AnswersAsBound }
+{}
+
+/// In a well formed query that is accepted, every table and column is there; a tie goes to another table with a key; a sum
+/// and an average take whole numbers; the condition on each table is 1 to 64 conjunctions, each of columns of that table
+/// and of none twice; and each key of the order is an item. Source: this project's own.
+pub fn queries_have_shape()
+    ensures { QueriesHaveShape }
 {}
