@@ -78,7 +78,7 @@ fn conjunction_text(alloc: Global, conjunction: &Conjunction) -> Result<String, 
             text.push_str(" ")?;
         }
         let tree = tree_text(alloc, &test.tree)?;
-        text.push_str(format!(in alloc; "{}{}", test.column, tree.as_str())?.as_str())?;
+        text.push_str(format!(in alloc; "{}:{}", test.column, tree.as_str())?.as_str())?;
     }
     text.push_str("]")?;
     Ok(text)
@@ -171,42 +171,45 @@ fn told(alloc: Global, text: &str) -> Result<String, AllocError> {
 // Statements, and the query that each is bound to.
 const QUERIES: [(&str, &str); 18] = [
     ("SELECT a FROM p", "fact 0 where [], 0.0 a"),
-    ("SELECT a FROM p WHERE a = 1", "fact 0 where [0(=1)], 0.0 a"),
+    (
+        "SELECT a FROM p WHERE a = 1",
+        "fact 0 where [0:(=1)], 0.0 a",
+    ),
     // Tests of one column are one, in the order in which their columns are first named.
     (
         "SELECT b FROM p WHERE b < 2 AND a = 1 AND b <> -3",
-        "fact 0 where [1(<2&<>-3) 0=1], 0.1 b",
+        "fact 0 where [1:(<2&<>-3) 0:=1], 0.1 b",
     ),
     (
         "SELECT a FROM p WHERE a = 1 OR a = 2",
-        "fact 0 where [0(((=1)|(=2)))], 0.0 a",
+        "fact 0 where [0:(((=1)|(=2)))], 0.0 a",
     ),
     // The first part varies slowest.
     (
         "SELECT a FROM p WHERE (a = 1 OR b = 1) AND (a = 2 OR b = 2)",
-        "fact 0 where [0((=1)&(=2))][0(=1) 1(=2)][1(=1) 0(=2)][1((=1)&(=2))], 0.0 a",
+        "fact 0 where [0:((=1)&(=2))][0:(=1) 1:(=2)][1:(=1) 0:(=2)][1:((=1)&(=2))], 0.0 a",
     ),
     // What names one column alone is one conjunction.
     (
         "SELECT a FROM p WHERE (b = 1 OR b = 2) AND a = 1",
-        "fact 0 where [1((=1)|(=2)) 0=1], 0.0 a",
+        "fact 0 where [1:((=1)|(=2)) 0:=1], 0.0 a",
     ),
     (
         "SELECT b FROM u WHERE b LIKE 'x%' AND a BETWEEN 1 AND 2 AND b IN ('y', 'z')",
-        "fact 0 where [1(x%&in 'y' 'z') 0 1..2], 0.1 b",
+        "fact 0 where [1:(x%&in 'y' 'z') 0:1..2], 0.1 b",
     ),
     (
         "SELECT v FROM f, d WHERE (fk = k AND v = 1)",
-        "fact 0 tie 1.0 where [2(=1)];[], 0.2 v",
+        "fact 0 tie 1.0 where [2:(=1)];[], 0.2 v",
     ),
     (
         "SELECT f.v, n FROM d, f WHERE k = gk AND n = 'x'",
-        "fact 1 tie 0.1 where [1(='x')];[], 1.2 0.1 f.v n",
+        "fact 1 tie 0.1 where [1:(='x')];[], 1.2 0.1 f.v n",
     ),
     // Two ties on one column of the fact.
     (
         "SELECT v, n FROM f, d, e WHERE fk = k AND fk = j AND n LIKE 'x%' ORDER BY n DESC, v LIMIT 3",
-        "fact 0 tie 1.0 tie 2.0 where [];[1(x%)];[], 0.2, 1.1 v n -1 +0 limit 3",
+        "fact 0 tie 1.0 tie 2.0 where [];[1:(x%)];[], 0.2, 1.1 v n -1 +0 limit 3",
     ),
     // Of two tables that could be the fact, the first in FROM is.
     (
@@ -240,7 +243,7 @@ const QUERIES: [(&str, &str); 18] = [
     ),
     (
         "SELECT a FROM p WHERE a > 1 LIMIT 0",
-        "fact 0 where [0(>1)], 0.0 a limit 0",
+        "fact 0 where [0:(>1)], 0.0 a limit 0",
     ),
 ];
 

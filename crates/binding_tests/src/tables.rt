@@ -1,7 +1,6 @@
 // Tables by name, and the answer of `bind` to the text of a query over them.
-ghost use Rattle.std.specs.Prelude.{◌≡◌, ◌×◌, true, map, Some, None, IfOk, codes, if◌then◌else◌};
+ghost use Rattle.std.specs.Prelude.{◌≡◌, true, map, Some, None, IfOk, codes, if◌then◌else◌};
 ghost use Rattle.std.specs.Str.{bytes_eq};
-ghost use Rattle.blink_base.specs.RowFits.{is_schema};
 ghost use Rattle.binding_tests.specs.Allowed.{column_of, are_allowed};
 
 use blink_base::{Column, Kind, List, Schema, Word};
