@@ -16,7 +16,7 @@ use Rattle.star_sql.specs.declared.ast.Primary.{Primary}
 use Rattle.star_sql.specs.Conditions.{of_prim}
 use Rattle.star_sql.specs.Literals.{test_of, column_of}
 use Rattle.star_meaning.specs.Names.{Scope, ColumnPlace, place_of, kind_at}
-use Rattle.star_bind.specs.declared.branch.Branch.{Branch}
+use Rattle.star_bind.specs.declared.conditions.branch.Branch.{Branch}
 use Rattle.star_bind.specs.declared.query.ColumnTest.{ColumnTest}
 use Rattle.star_bind.specs.declared.query.Conjunction.{Conjunction}
 use Rattle.star_bind.specs.Branches.{number_of, made_over, made_of, if_several, branch_columns, followed, spread, branch_every, branch_some, branch_leaf, branch_test}

@@ -16,9 +16,9 @@ use Rattle.star_sql.specs.declared.ast.TestWords.{TestWords}
 use Rattle.star_sql.specs.Conditions.{of_prim}
 use Rattle.star_sql.specs.Literals.{test_of, column_of}
 use Rattle.star_meaning.specs.Names.{Scope, ColumnPlace, place_of, kind_at}
-use Rattle.star_bind.specs.declared.scope.Place.{Place}
+use Rattle.star_bind.specs.declared.names.scope.Place.{Place}
 use Rattle.star_bind.specs.Lookup.{place_in}
-use Rattle.star_bind.specs.declared.count.Count.{Count}
+use Rattle.star_bind.specs.declared.conditions.count.Count.{Count}
 use Rattle.star_bind.specs.Caps.{capped}
 use Rattle.star_bind.specs.Counts.{Counted, counted, counted_columns, product_of, and_count, or_count, leaf_count, test_count, factor_count}
 use Rattle.star_bind.specs.CappedCounts.{with_column, add_once, sum_from, product_from, count_of, count_columns, count_test, count_every, count_some}

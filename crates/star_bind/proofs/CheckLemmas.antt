@@ -9,7 +9,7 @@ use Rattle.blink_base.specs.declared.refusal.Refusal.TheVariants.{UnknownTable}
 use Rattle.star_meaning.specs.Names.{Scope}
 use Rattle.star_sql.specs.declared.ast.Primary.{Primary}
 use Rattle.star_sql.specs.declared.ast.Select.{Select}
-use Rattle.star_bind.specs.declared.scope.Entry.{Entry}
+use Rattle.star_bind.specs.declared.names.scope.Entry.{Entry}
 use Rattle.star_bind.specs.declared.fault.BindFault.{BindFault}
 use Rattle.star_bind.specs.BoundQuery.{Schemas, entry_of, scope_of, unknown_tables, scope_refusal, first_refusal, first_some, is_wide}
 use Rattle.star_bind.specs.Checks.{IsChecked, is_why}

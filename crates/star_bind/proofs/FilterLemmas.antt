@@ -6,7 +6,7 @@ use Rattle.std.proofs.lemmas.Bool.{and_parts}
 use Rattle.std.proofs.lemmas.List.{map-append}
 use Rattle.std.proofs.lemmas.List.Folds.{list_all-append}
 use Rattle.blink_lists.specs.Lists.{once_each}
-use Rattle.star_bind.specs.declared.factors.Factor.{Factor}
+use Rattle.star_bind.specs.declared.star.factors.Factor.{Factor}
 use Rattle.star_sql.specs.declared.ast.TestWords.{TestWords}
 use Rattle.star_sql.specs.declared.ast.Primary.{Primary}
 use Rattle.star_meaning.specs.Names.{Scope}

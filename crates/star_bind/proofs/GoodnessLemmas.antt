@@ -10,7 +10,7 @@ use Rattle.star_sql.specs.declared.ast.Select.{Select}
 use Rattle.star_sql.specs.Conditions.{of_boxed, of_conjs, of_prims}
 use Rattle.star_sql.specs.WellFormed.{is_test, is_condition, some_and_all, if_there, is_item, is_column_name, is_order_key, is_written_limit, is_select}
 use Rattle.blink_base.specs.Identifiers.{is_name}
-use Rattle.star_bind.specs.declared.factors.Factor.{Factor}
+use Rattle.star_bind.specs.declared.star.factors.Factor.{Factor}
 use Rattle.star_bind.specs.Checks.{primary_is_good, cond_is_good, where_formed}
 use Rattle.star_bind.specs.Factors.{grouped, factors_of, of_one, of_all, of_primary, of_box, factors}
 use Rattle.star_bind.specs.FactorParts.{primary_of}

@@ -10,7 +10,7 @@ use Rattle.star_sql.specs.declared.ast.Select.{Select}
 use Rattle.star_meaning.specs.Names.{Scope, ColumnPlace, place_of}
 use Rattle.star_meaning.specs.Groups.{has_aggregate}
 use Rattle.star_meaning.specs.Answer.{bare_column, is_place}
-use Rattle.star_bind.specs.declared.scope.Place.{Place}
+use Rattle.star_bind.specs.declared.names.scope.Place.{Place}
 use Rattle.star_bind.specs.GroupRule.{has_groups, is_grouping, may_stand, is_grouped}
 use Rattle.star_bind.specs.Lookup.{place_in, is_same_place, stands_among, item_stands}
 

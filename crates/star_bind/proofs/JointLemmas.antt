@@ -5,15 +5,15 @@ use Rattle.std.specs.List.{list_all, list_any}
 use Rattle.std.specs.Str.{bytes_eq}
 use Rattle.std.specs.Prelude.{nat_le}
 use Rattle.std.proofs.lemmas.List.{length-map}
-use Rattle.star_bind.specs.declared.scope.Entry.{Entry}
+use Rattle.star_bind.specs.declared.names.scope.Entry.{Entry}
 use Rattle.star_bind.specs.Lookup.{scope_from}
 use Rattle.blink_lists.proofs.SumLemmas.{count-map}
 use Rattle.blink_lists.specs.Lists.{joined, numbered, numbered_from, numbers_from, are_distinct}
 use Rattle.star_sql.specs.declared.ast.Primary.{Primary}
 use Rattle.star_sql.specs.declared.ast.Select.{Select}
 use Rattle.star_meaning.specs.Names.{Scope, FromEntry}
-use Rattle.star_bind.specs.declared.star.Joint.{Joint}
-use Rattle.star_bind.specs.declared.star.Tied.{Tied}
+use Rattle.star_bind.specs.declared.star.star_form.Joint.{Joint}
+use Rattle.star_bind.specs.declared.star.star_form.Tied.{Tied}
 use Rattle.star_bind.specs.declared.query.Tie.{Tie}
 use Rattle.star_bind.specs.Factors.{factors}
 use Rattle.star_bind.specs.StarForm.{ColumnPair, is_pair_factor, pairs_in, tie_from, ties_in, ties_of, is_fact, is_filter, needs_one_table, has_star_parts, fact_if, fact_of}

@@ -7,10 +7,10 @@ use Rattle.blink_base.specs.declared.schema.Column.{Column}
 use Rattle.blink_lists.specs.Lists.{numbered_from, joined, only_one}
 use Rattle.star_sql.specs.declared.ast.ColumnName.{ColumnName}
 use Rattle.star_meaning.specs.Names.{FromEntry, ColumnPlace, is_meant, place_if, places_in}
-use Rattle.star_bind.specs.declared.scope.Entry.{Entry}
-use Rattle.star_bind.specs.declared.scope.Place.{Place}
-use Rattle.star_bind.specs.declared.scope.Found.{Found}
-use Rattle.star_bind.specs.declared.scope.Found.TheVariants as found
+use Rattle.star_bind.specs.declared.names.scope.Entry.{Entry}
+use Rattle.star_bind.specs.declared.names.scope.Place.{Place}
+use Rattle.star_bind.specs.declared.names.scope.Found.{Found}
+use Rattle.star_bind.specs.declared.names.scope.Found.TheVariants as found
 use Rattle.star_bind.specs.Lookup.{entry_from, scope_from, place_in, found_and, found_more, found_of, is_nothing, are_several}
 
 pub more_append : (f : Found) (xs ys : List ColumnPlace) → found_more f (xs ++ ys) ≡ found_more (found_more f xs) ys

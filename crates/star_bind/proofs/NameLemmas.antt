@@ -16,7 +16,7 @@ use Rattle.star_sql.specs.declared.ast.Select.{Select}
 use Rattle.star_meaning.specs.Names.{Scope, ColumnPlace, place_of, name_text}
 use Rattle.star_meaning.specs.NameRefusals.{test_names, cond_names, names_in, column_keys, is_unknown, is_ambiguous, is_unknown_key, unknown_names, ambiguous_names, name_refusal}
 use Rattle.star_meaning.specs.Answer.{is_place, item_place, column_item}
-use Rattle.star_bind.specs.declared.scope.Place.{Place}
+use Rattle.star_bind.specs.declared.names.scope.Place.{Place}
 use Rattle.star_bind.specs.Lookup.{place_in, is_same_place, index_of, is_lost}
 use Rattle.star_bind.specs.declared.fault.BindFault.{BindFault}
 use Rattle.star_bind.specs.Checks.{where_tests, IsChecked, names_told}

@@ -3,7 +3,7 @@ use Rattle.std.proofs.Common.{suc, ◌<◌, ◌+◌, get_or, append_assoc, add-o
 use Rattle.std.specs.List.{list_all}
 use Rattle.std.proofs.lemmas.Bool.{and_parts}
 use Rattle.std.proofs.lemmas.List.{append-nil, drop_all}
-use Rattle.star_bind.specs.declared.factors.Factor.{Factor}
+use Rattle.star_bind.specs.declared.star.factors.Factor.{Factor}
 use Rattle.star_bind.specs.FactorParts.{primary_of}
 use Rattle.blink_lists.specs.Lists.{all_true}
 use Rattle.star_sql.specs.declared.ast.TestWords.{TestWords}

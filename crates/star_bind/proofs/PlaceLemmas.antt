@@ -14,10 +14,10 @@ use Rattle.star_sql.specs.declared.ast.Primary.{Primary, Test, Group'}
 use Rattle.star_meaning.specs.Names.{Scope, FromEntry, ColumnPlace, is_meant, place_if, places_in, places, place_of}
 use Rattle.star_bind.specs.declared.query.ColumnRef.{ColumnRef}
 use Rattle.star_bind.specs.declared.query.Tie.{Tie}
-use Rattle.star_bind.specs.declared.scope.Entry.{Entry}
-use Rattle.star_bind.specs.declared.scope.Place.{Place}
-use Rattle.star_bind.specs.declared.star.Joint.{Joint}
-use Rattle.star_bind.specs.declared.star.Tied.{Tied}
+use Rattle.star_bind.specs.declared.names.scope.Entry.{Entry}
+use Rattle.star_bind.specs.declared.names.scope.Place.{Place}
+use Rattle.star_bind.specs.declared.star.star_form.Joint.{Joint}
+use Rattle.star_bind.specs.declared.star.star_form.Tied.{Tied}
 use Rattle.star_bind.specs.BoundQuery.{ref_of, meant}
 use Rattle.star_bind.specs.Joints.{is_joint, pairs_of, tie_from_tied, ties_of_joints}
 use Rattle.star_bind.specs.Lookup.{place_in}

@@ -20,13 +20,13 @@ use Rattle.star_sql.specs.Spelling.{HasFewTokens}
 use Rattle.star_meaning.specs.Names.{Scope, FromEntry}
 use Rattle.star_meaning.specs.Answer.{item_meant, is_falling, line_keys}
 use Rattle.star_bind.specs.declared.query.BoundOrder.{BoundOrder}
-use Rattle.star_bind.specs.declared.branch.Branch.{Branch}
+use Rattle.star_bind.specs.declared.conditions.branch.Branch.{Branch}
 use Rattle.star_bind.specs.declared.fault.BindFault.{BindFault}
 use Rattle.star_bind.specs.declared.query.Conjunction.{Conjunction}
 use Rattle.star_bind.specs.declared.query.Query.{Query}
 use Rattle.star_bind.specs.declared.query.Tie.{Tie}
-use Rattle.star_bind.specs.declared.star.Joint.{Joint}
-use Rattle.star_bind.specs.declared.star.Tied.{Tied}
+use Rattle.star_bind.specs.declared.star.star_form.Joint.{Joint}
+use Rattle.star_bind.specs.declared.star.star_form.Tied.{Tied}
 use Rattle.star_bind.specs.BoundQuery.{Schemas, entry_of, scope_of, scope_refusal, first_refusal, query_in, query_of, bound_or_refused, bound_of}
 use Rattle.star_bind.specs.Conjunctions.{Tests, factor_subtree, and_of, table_conjunctions}
 use Rattle.star_bind.specs.Factors.{factors}

@@ -7,7 +7,7 @@ use Rattle.star_sql.specs.declared.ast.Primary.{Primary}
 use Rattle.star_sql.specs.declared.ast.Select.{Select}
 use Rattle.star_meaning.specs.Names.{Scope, FromEntry}
 use Rattle.star_bind.specs.declared.limits.TheConstants.{MOST_CONJUNCTIONS}
-use Rattle.star_bind.specs.declared.scope.Entry.{Entry}
+use Rattle.star_bind.specs.declared.names.scope.Entry.{Entry}
 use Rattle.star_bind.specs.Caps.{capped}
 use Rattle.star_bind.specs.Counts.{and_count, factor_count}
 use Rattle.star_bind.specs.Factors.{factors}

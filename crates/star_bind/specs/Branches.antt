@@ -7,7 +7,7 @@ use Rattle.blink_lists.specs.Lists.{joined, once_each}
 use Rattle.star_sql.specs.declared.ast.TestWords.{TestWords}
 use Rattle.star_sql.specs.Literals.{test_of, column_of}
 use Rattle.star_meaning.specs.Names.{Scope, place_of, kind_at}
-use Rattle.star_bind.specs.declared.branch.Branch.{Branch}
+use Rattle.star_bind.specs.declared.conditions.branch.Branch.{Branch}
 use Rattle.star_bind.specs.declared.query.ColumnTest.{ColumnTest}
 use Rattle.star_bind.specs.Conjunctions.{Tests, merged}
 

@@ -5,7 +5,7 @@ use Rattle.blink_lists.specs.Lists.{joined, once_each}
 use Rattle.star_sql.specs.declared.ast.TestWords.{TestWords}
 use Rattle.star_sql.specs.declared.ast.Primary.{Primary}
 use Rattle.star_meaning.specs.Names.{Scope}
-use Rattle.star_bind.specs.declared.count.Count.{Count}
+use Rattle.star_bind.specs.declared.conditions.count.Count.{Count}
 use Rattle.star_bind.specs.Caps.{capped}
 use Rattle.star_bind.specs.Counts.{test_count, factor_count, and_count}
 use Rattle.star_bind.specs.StarForm.{is_pair_factor, tables_in}

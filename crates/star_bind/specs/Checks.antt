@@ -14,7 +14,7 @@ use Rattle.star_sql.specs.Conditions.{of_cond, of_prim}
 use Rattle.star_sql.specs.WellFormed.{is_test, is_condition}
 use Rattle.star_meaning.specs.Names.{Scope, name_text}
 use Rattle.star_meaning.specs.NameRefusals.{is_unknown, is_ambiguous}
-use Rattle.star_bind.specs.declared.scope.Place.{Place}
+use Rattle.star_bind.specs.declared.names.scope.Place.{Place}
 use Rattle.star_bind.specs.Lookup.{is_lost}
 use Rattle.star_bind.specs.declared.fault.BindFault.{BindFault}
 use Rattle.star_bind.specs.BindAnswer.{refusal_of}

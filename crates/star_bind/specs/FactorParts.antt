@@ -5,8 +5,8 @@ use Rattle.star_sql.specs.declared.ast.TestWords.{TestWords}
 use Rattle.star_sql.specs.Literals.{column_of}
 use Rattle.star_meaning.specs.Names.{Scope, place_of}
 use Rattle.star_sql.specs.declared.ast.Primary.{Primary, Test}
-use Rattle.star_bind.specs.declared.factors.Factor.{Factor}
-use Rattle.star_bind.specs.declared.factors.Factor.TheVariants.{Words, Whole}
+use Rattle.star_bind.specs.declared.star.factors.Factor.{Factor}
+use Rattle.star_bind.specs.declared.star.factors.Factor.TheVariants.{Words, Whole}
 use Rattle.star_bind.specs.Factors.{grouped}
 use Rattle.star_bind.specs.CappedCounts.{with_column}
 

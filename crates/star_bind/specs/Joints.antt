@@ -3,11 +3,11 @@ use Rattle.std.specs.Prelude.{ℕ, Bool, true, false, not, ◌||◌, ◌&&◌, c
 use Rattle.std.specs.List.{list_all}
 use Rattle.blink_lists.specs.Lists.{joined, numbers_from}
 use Rattle.star_meaning.specs.Names.{Scope, ColumnPlace}
-use Rattle.star_bind.specs.declared.scope.Place.{Place}
-use Rattle.star_bind.specs.declared.star.Pair.{Pair}
-use Rattle.star_bind.specs.declared.star.Joint.{Joint}
-use Rattle.star_bind.specs.declared.star.Joint.TheVariants as joint
-use Rattle.star_bind.specs.declared.star.Tied.{Tied}
+use Rattle.star_bind.specs.declared.names.scope.Place.{Place}
+use Rattle.star_bind.specs.declared.star.star_form.Pair.{Pair}
+use Rattle.star_bind.specs.declared.star.star_form.Joint.{Joint}
+use Rattle.star_bind.specs.declared.star.star_form.Joint.TheVariants as joint
+use Rattle.star_bind.specs.declared.star.star_form.Tied.{Tied}
 use Rattle.star_bind.specs.declared.query.Tie.{Tie}
 use Rattle.star_bind.specs.StarForm.{ColumnPair, tie_from}
 

@@ -6,10 +6,10 @@ use Rattle.star_sql.specs.declared.ast.What.{What}
 use Rattle.star_sql.specs.declared.ast.What.TheVariants as what
 use Rattle.star_meaning.specs.Names.{Scope, FromEntry, ColumnPlace, place_of}
 use Rattle.star_meaning.specs.NameRefusals.{is_ambiguous}
-use Rattle.star_bind.specs.declared.scope.Entry.{Entry}
-use Rattle.star_bind.specs.declared.scope.Place.{Place}
-use Rattle.star_bind.specs.declared.scope.Found.{Found}
-use Rattle.star_bind.specs.declared.scope.Found.TheVariants as found
+use Rattle.star_bind.specs.declared.names.scope.Entry.{Entry}
+use Rattle.star_bind.specs.declared.names.scope.Place.{Place}
+use Rattle.star_bind.specs.declared.names.scope.Found.{Found}
+use Rattle.star_bind.specs.declared.names.scope.Found.TheVariants as found
 
 -- a FROM entry
 abbrev pub entry_from : Entry → FromEntry

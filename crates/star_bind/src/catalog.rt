@@ -8,7 +8,7 @@ ghost use Rattle.star_bind.specs.Checks.{IsChecked, is_why};
 ghost use Rattle.star_bind.specs.Lookup.{scope_from};
 
 use crate::BindFault;
-use crate::scope::Entry;
+use crate::names::scope::Entry;
 use blink_base::{Refusal, Schema, Word};
 use std::alloc::Global;
 

@@ -5,38 +5,20 @@
 #![tactic(auto)]
 
 mod binding;
-mod bound_names;
-mod branch;
 mod catalog;
 mod checks;
-mod columns;
-mod condition_tests;
-mod conjunctions;
-mod copies;
-mod count;
+mod conditions;
 pub mod examples;
-mod factors;
 mod fault;
-mod filters;
-mod fold;
-mod groups;
-mod kinds;
 pub mod laws;
 mod limits;
-mod literals;
-mod merged;
 mod names;
-mod printed_names;
 mod query;
-mod scope;
-mod spread;
 mod star;
-mod ties;
-mod width;
 
 pub use binding::bind;
 pub use catalog::Catalog;
+pub use conditions::literal_value;
 pub use fault::BindFault;
 pub use limits::MOST_CONJUNCTIONS;
-pub use literals::literal_value;
 pub use query::{BoundExpr, BoundItem, BoundOrder, ColumnRef, ColumnTest, Conjunction, Query, Tie};

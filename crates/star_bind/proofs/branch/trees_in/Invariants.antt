@@ -1,9 +1,0 @@
-use Rattle.std.proofs.Common.{◌≡◌, ◌++◌, map, length}
-use Rattle.std.specs.Vec.Iter.{into_iter_items, into_iter_len}
-use Rattle.star_bind.proofs.branch.trees_in.Given as goal
-
-abbrev pub invariant-loop-part : goal.invariant-loop-part
-invariant-loop-part l = record {
-  counted : into_iter_len l.part-iterator ≡ length (into_iter_items l.part-iterator);
-  made : l.trees.items ++ map (λ p. p.tree) (into_iter_items l.part-iterator) ≡ map (λ p. p.tree) (into_iter_items l.initial.part-iterator);
-}

@@ -1,7 +1,0 @@
-use Rattle.std.proofs.Common.{Vec, Global}
-use Rattle.star_bind.specs.declared.factors.Factor.{Factor}
-use Rattle.star_bind.proofs.GoodnessLemmas.{gathered_good}
-use Rattle.star_bind.proofs.factors.where_factors.Goals as goal
-
-pub returns-clause-good : goal.returns-clause-good
-returns-clause-good c = gathered_good (λ (v : Vec Factor Global). v.items) c.gathered.result c.args.condition.now c.requires c.gathered.ensures
