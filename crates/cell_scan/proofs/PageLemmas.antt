@@ -5,7 +5,7 @@ use Rattle.std.proofs.lemmas.List.{drop_all, drop-drop, get_or-drop, length-drop
 use Rattle.std.specs.List.{flat_map, zip}
 use Rattle.blink_lists.specs.Lists.{numbers_from}
 use Rattle.blink_lists.specs.declared.limits.TheConstants.{PAGE_ROWS}
-use Rattle.row_bits.specs.Bits.{both_true, first_true, some_true}
+use Rattle.row_bits.specs.Bits.{both_true, first_true}
 use Rattle.cell_scan.specs.Match.{bits_where, rows_of_page, selected_rows}
 use Rattle.cell_scan.specs.PageLaws.{SelectedRowsPass, OrIsEither, PagesAreRows}
 

@@ -10,7 +10,6 @@ use Rattle.blink_lists.proofs.BoolLemmas.{all-same-if}
 use Rattle.blink_lists.proofs.ZipLemmas.{zip-at, map-zip-at}
 use Rattle.order_codes.specs.Dictionary.{Classes, class_at, decoded, codes_where}
 use Rattle.cell_layout.specs.Image.{decoded_row}
-use Rattle.cell_layout.specs.Valid.{are_codes}
 use Rattle.cell_scan.specs.Match.{is_in}
 use Rattle.cell_scan.specs.ValueTests.{ValueTest, cell_class, SetsAreTests}
 
@@ -69,5 +68,5 @@ sets_are_tests columns classes codes tests e good named =
     let f : length codes ≡ length columns = eqb-true (length codes) (length columns) parts.0 in
     list_all-map (is_in codes) (λ (t : ValueTest). record { column = t.column; codes = codes_where t.holds (cell_class columns classes t.column) }) tests
     ∙ all-same-if (λ (t : ValueTest). nat_lt t.column (length columns)) (λ (t : ValueTest). list_any (λ code. code == slice_index_or codes t.column 0) (codes_where t.holds (cell_class columns classes t.column)))
-      (λ (t : ValueTest). t.holds (slice_index_or (decoded_row columns classes codes) t.column (Int (pos 0))))
-      (λ t within. code_is_value columns classes codes e f parts.1 t.holds t.column (ltb-true t.column (length columns) within)) tests named
+    (λ (t : ValueTest). t.holds (slice_index_or (decoded_row columns classes codes) t.column (Int (pos 0))))
+    (λ t within. code_is_value columns classes codes e f parts.1 t.holds t.column (ltb-true t.column (length columns) within)) tests named

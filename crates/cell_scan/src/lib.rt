@@ -2,6 +2,7 @@
 #![tactic(auto)]
 
 mod code_test;
+pub mod examples;
 pub mod laws;
 mod scan;
 mod test_bits;

@@ -1,4 +1,4 @@
-use Rattle.std.proofs.Common.{◌≡◌, ◌-◌, ◌*◌, arith, ap, false, get_or, min, not, sym, take, ◌∙◌}
+use Rattle.std.proofs.Common.{◌-◌, ◌*◌, arith, ap, false, get_or, min, not, sym, ◌∙◌}
 use Rattle.std.proofs.lemmas.List.{take_all}
 use Rattle.row_bits.specs.Bits.{both_true, first_true}
 use Rattle.cell_layout.specs.Image.{cell_at}
