@@ -1,7 +1,6 @@
 // The rows of a page that pass a conjunction.
-ghost use Rattle.std.specs.Prelude.{◌≡◌, ◌<◌, ◌≤◌, ◌+◌, IsTrue, drop, length, take};
+ghost use Rattle.std.specs.Prelude.{◌≡◌, ◌<◌, IsTrue, length};
 ghost use Rattle.std.specs.List.{list_all};
-ghost use Rattle.blink_lists.specs.declared.limits.TheConstants.{PAGE_ROWS};
 ghost use Rattle.page_synopsis.specs.Sets.{is_fair};
 ghost use Rattle.cell_layout.specs.Blocks.{page_count};
 ghost use Rattle.cell_layout.specs.Image.{cell_at};
@@ -15,9 +14,9 @@ use cell_layout::Image;
 use row_bits::PageBits;
 use word_pool::Ledger;
 
-/// Which rows of a page of a cell pass all tests, false behind its last row. The cell and the page are there; at most one
-/// test a column, of codes below the size of its class in this cell. It takes no memory. Source: after Johnson et al., VLDB
-/// 2008 (conjunctions over packed fields).
+/// Which rows of a page of a cell pass all tests, and false behind its last row. The cell and the page are there. There is at
+/// most one test a column; its set is one that [`Ranges::of`](page_synopsis::Ranges::of) makes, of codes below the size of the
+/// column's class in this cell. It takes no memory. Source: after Johnson et al., VLDB 2008 (conjunctions over packed fields).
 pub fn scan_conjunction<M: Ledger>(
     image: &Image<M>,
     cell: usize,

@@ -1,5 +1,5 @@
 // The rows of a page that pass one test.
-ghost use Rattle.std.specs.Prelude.{◌≡◌, ◌<◌, ◌≤◌, ◌+◌, ◌&&◌, IsTrue, drop, length, nat_le, slice_index_or as get_or, take, ◌==◌};
+ghost use Rattle.std.specs.Prelude.{◌≡◌, ◌<◌, ◌≤◌, ◌+◌, ◌==◌, ◌&&◌, IsTrue, drop, length, nat_le, slice_index_or as get_or, take};
 ghost use Rattle.std.specs.List.{list_any};
 ghost use Rattle.blink_lists.specs.declared.limits.TheConstants.{PAGE_ROWS};
 ghost use Rattle.page_synopsis.specs.Sets.{codes_in, is_fair};
