@@ -1,5 +1,5 @@
 // The text of an answer.
-ghost use Rattle.std.specs.Prelude.{◌≡◌, ◌++◌, ◌∷◌, [], map, flat_map, IfOk, OnOk, IsTrue};
+ghost use Rattle.std.specs.Prelude.{◌≡◌, ◌<◌, ◌+◌, ◌++◌, ◌∷◌, [], map, flat_map, IfOk, OnOk, IsTrue};
 ghost use Rattle.std.specs.List.{list_all};
 ghost use Rattle.std.specs.Io.KnownBytes.{Appends};
 ghost use Rattle.csv.specs.Records.{fields_of, partial_of};
@@ -35,36 +35,36 @@ fn records_text(alloc: Global, answer: &Answer) -> Result<Vec<u8>, AllocError>
     let mut writer = WriterBuilder::new()
         .flexible(true)
         .from_writer(Vec::new(alloc));
-    let mut record = ByteRecord::new(alloc);
-    write_names(&mut writer, &mut record, answer.names.as_slice())?;
-    write_lines(&mut writer, &mut record, answer.lines.as_slice())?;
+    let mut fields = ByteRecord::new(alloc);
+    write_names(&mut writer, &mut fields, answer.names.as_slice())?;
+    write_lines(&mut writer, &mut fields, answer.lines.as_slice())?;
     match writer.into_inner() {
         Ok(text) => Ok(text),
         Err(_) => Err(AllocError),
     }
 }
 
-// Writes the record of some names, which it makes in another.
+// Writes the record of some names.
 fn write_names<W: Write + Drop>(
     writer: &mut Writer<W>,
-    record: &mut ByteRecord,
+    fields: &mut ByteRecord,
     names: &[Word],
 ) -> Result<(), AllocError>
     requires { IsBetween writer.old }
     ensures between { OnOk result (IsBetween writer.new) }
     ensures bytes { OnOk result (Appends (text_written W.contents writer.old) (text_written W.contents writer.new) (record_bytes names.now)) }
 {
-    record.clear();
+    fields.clear();
     for name in names {
-        record.push_field(name.as_str().as_bytes())?;
+        fields.push_field(name.as_str().as_bytes())?;
     }
-    write_record(writer, record)
+    write_record(writer, fields)
 }
 
-// Writes a record for each of some lines, which it makes in another.
+// Writes a record for each of some lines.
 fn write_lines<W: Write + Drop>(
     writer: &mut Writer<W>,
-    record: &mut ByteRecord,
+    fields: &mut ByteRecord,
     lines: &[List<Field>],
 ) -> Result<(), AllocError>
     requires between { IsBetween writer.old }
@@ -73,50 +73,50 @@ fn write_lines<W: Write + Drop>(
     ensures bytes { OnOk result (Appends (text_written W.contents writer.old) (text_written W.contents writer.new) (flat_map answer_line_bytes lines.now)) }
 {
     for line in lines {
-        read_line(record, line.as_slice())?;
-        write_record(writer, record)?;
+        read_line(fields, line.as_slice())?;
+        write_record(writer, fields)?;
     }
     Ok(())
 }
 
 // Makes a record of the fields of a line.
-fn read_line(record: &mut ByteRecord, line: &[Field]) -> Result<(), AllocError>
+fn read_line(fields: &mut ByteRecord, line: &[Field]) -> Result<(), AllocError>
     requires { IsTrue (list_all is_good_field line.now) }
-    ensures { OnOk result (fields_of record.new ≡ map field_bytes line.now) }
+    ensures { OnOk result (fields_of fields.new ≡ map field_bytes line.now) }
 {
-    record.clear();
+    fields.clear();
     for field in line {
-        push_field(record, field)?;
+        push_field(fields, field)?;
     }
     Ok(())
 }
 
 // Puts a field behind those of a record.
-fn push_field(record: &mut ByteRecord, field: &Field) -> Result<(), AllocError>
+fn push_field(fields: &mut ByteRecord, field: &Field) -> Result<(), AllocError>
     requires dates { IsTrue (is_good_field field.now) }
-    requires whole { partial_of record.old ≡ [] }
-    ensures fields { OnOk result (fields_of record.new ≡ fields_of record.old ++ field_bytes field.now ∷ []) }
-    ensures whole { OnOk result (partial_of record.new ≡ []) }
+    requires whole { partial_of fields.old ≡ [] }
+    ensures fields { OnOk result (fields_of fields.new ≡ fields_of fields.old ++ field_bytes field.now ∷ []) }
+    ensures whole { OnOk result (partial_of fields.new ≡ []) }
 {
     let mut number_buffer = Buffer::new();
     match field {
-        Field::Null => record.push_field(b"NULL"),
-        Field::Number(number) => record.push_field(number_buffer.format(*number).as_bytes()),
-        Field::Text(text) => record.push_field(text.as_str().as_bytes()),
-        Field::Date(date) => record.push_field(&date_text(*date)),
+        Field::Null => fields.push_field(b"NULL"),
+        Field::Number(number) => fields.push_field(number_buffer.format(*number).as_bytes()),
+        Field::Text(text) => fields.push_field(text.as_str().as_bytes()),
+        Field::Date(date) => fields.push_field(&date_text(*date)),
     }
 }
 
 // Writes a record behind those that were written.
 fn write_record<W: Write + Drop>(
     writer: &mut Writer<W>,
-    record: &ByteRecord,
+    fields: &ByteRecord,
 ) -> Result<(), AllocError>
     requires { IsBetween writer.old }
     ensures between { OnOk result (IsBetween writer.new) }
-    ensures bytes { OnOk result (Appends (text_written W.contents writer.old) (text_written W.contents writer.new) (record_bytes (fields_of record.now))) }
+    ensures bytes { OnOk result (Appends (text_written W.contents writer.old) (text_written W.contents writer.new) (record_bytes (fields_of fields.now))) }
 {
-    match writer.write_byte_record(record) {
+    match writer.write_byte_record(fields) {
         Ok(()) => Ok(()),
         Err(_) => Err(AllocError),
     }
