@@ -60,18 +60,16 @@ fn may_hold(schema: &Schema, rows: &[Row]) -> bool
     rows.iter().all(|row| schema.fits(row))
 }
 
-// A column, and codes of which those of its class in a cell qualify.
-type Asked = (usize, &'static [u32]);
+// A column, and the codes that qualify: from one up to, but without, another, as far as its class in a cell goes.
+type Asked = (usize, &'static [(u32, u32)]);
 
-// Codes below a size.
-fn codes_below(alloc: Global, size: u32, codes: &[u32]) -> Result<CodeBits, AllocError>
+// Those of the codes that are below a size.
+fn codes_below(alloc: Global, size: u32, ranges: &[(u32, u32)]) -> Result<CodeBits, AllocError>
     ensures { IfOk result (λ bits. length bits ≡ size) }
 {
     let mut bits = CodeBits::new(alloc, size)?;
-    for code in codes {
-        if *code < bits.size() {
-            bits.set(*code);
-        }
+    for range in ranges {
+        bits.set_range(range.0, size.min(range.1));
     }
     Ok(bits)
 }
@@ -87,7 +85,7 @@ fn test_in<M: Ledger>(
     ensures fair { IfOk result (λ test. IfSome test (λ t. IsTrue (is_fair t.ranges))) }
     ensures within { IfOk result (λ test. IfSome test (λ t. IsTrue (is_within image.now.columns (cell_at image.now cell).classes t))) }
 {
-    let (column, codes) = *asked;
+    let (column, ranges) = *asked;
     let dicts = image.dictionaries();
     let classes = image.cell_classes(cell);
     if column >= dicts.len() || column >= classes.len() || column >= 32 {
@@ -97,7 +95,7 @@ fn test_in<M: Ledger>(
     if class >= dicts[column].classes() {
         return Ok(None);
     }
-    let bits = codes_below(alloc, dicts[column].size(class), codes)?;
+    let bits = codes_below(alloc, dicts[column].size(class), ranges)?;
     match Ranges::of(bits) {
         Some(ranges) => Ok(Some(CodeTest {
             column: column as u32,
@@ -267,37 +265,62 @@ const CASES: [Case; 14] = [
     },
     Case {
         pairs: TWENTY,
-        asked: &[(0, &[3, 4, 5])],
+        asked: &[(0, &[(3, 6)])],
         pages: &[(3, Some(3))],
     },
     Case {
         pairs: TWENTY,
-        asked: &[(0, &[0, 2, 4, 6, 8, 10, 12, 14])],
+        asked: &[(
+            0,
+            &[
+                (0, 1),
+                (2, 3),
+                (4, 5),
+                (6, 7),
+                (8, 9),
+                (10, 11),
+                (12, 13),
+                (14, 15),
+            ],
+        )],
         pages: &[(8, Some(0))],
     },
     Case {
         pairs: TWENTY,
-        asked: &[(0, &[1, 3, 5, 7, 9, 11, 13, 15, 17])],
+        asked: &[(
+            0,
+            &[
+                (1, 2),
+                (3, 4),
+                (5, 6),
+                (7, 8),
+                (9, 10),
+                (11, 12),
+                (13, 14),
+                (15, 16),
+                (17, 18),
+            ],
+        )],
         pages: &[(9, Some(1))],
     },
     Case {
         pairs: TWENTY,
-        asked: &[(0, &[19]), (1, &[0])],
+        asked: &[(0, &[(19, 20)]), (1, &[(0, 1)])],
         pages: &[(1, Some(19))],
     },
     Case {
         pairs: SIX,
-        asked: &[(0, &[1, 2]), (1, &[0])],
+        asked: &[(0, &[(1, 3)]), (1, &[(0, 1)])],
         pages: &[(2, Some(2))],
     },
     Case {
         pairs: SIX,
-        asked: &[(1, &[1]), (0, &[0, 2])],
+        asked: &[(1, &[(1, 2)]), (0, &[(0, 1), (2, 3)])],
         pages: &[(2, Some(1))],
     },
     Case {
         pairs: &[(1, 1, 1), (1, 2, 2)],
-        asked: &[(0, &[0]), (1, &[1])],
+        asked: &[(0, &[(0, 1)]), (1, &[(1, 2)])],
         pages: &[(0, None)],
     },
     Case {
@@ -307,27 +330,27 @@ const CASES: [Case; 14] = [
     },
     Case {
         pairs: &[(1000, 4, 0), (30, 9, 0)],
-        asked: &[(0, &[1])],
+        asked: &[(0, &[(1, 2)])],
         pages: &[(24, Some(1000)), (6, Some(0))],
     },
     Case {
         pairs: &[(1024, 4, 0), (1024, 9, 0)],
-        asked: &[(0, &[1]), (1, &[0])],
+        asked: &[(0, &[(1, 2)]), (1, &[(0, 1)])],
         pages: &[(0, None), (1024, Some(0))],
     },
     Case {
         pairs: DIVIDED,
-        asked: &[(0, &[1])],
+        asked: &[(0, &[(1, 2)])],
         pages: &[(100, Some(0)), (10, Some(10))],
     },
     Case {
         pairs: DIVIDED,
-        asked: &[(0, &[2])],
+        asked: &[(0, &[(2, 3)])],
         pages: &[(10, Some(20))],
     },
     Case {
         pairs: &[],
-        asked: &[(0, &[0])],
+        asked: &[(0, &[(0, 1)])],
         pages: &[],
     },
 ];

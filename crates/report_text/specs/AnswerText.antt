@@ -1,5 +1,5 @@
 -- The bytes of an answer: a record of its names, a record a line, and how many lines there are. Source: RFC 4180 (records and their quotes), by the crate `csv`'s own definition of a record; ISO/IEC 9075 (NULL, dates); the last line is this project's own.
-use Rattle.std.specs.Prelude.{◌≡◌, ℕ, Bool, true, false, List, [], ◌∷◌, ◌++◌, map, flat_map, length, codes}
+use Rattle.std.specs.Prelude.{◌≡◌, Bool, true, false, List, [], ◌∷◌, ◌++◌, map, flat_map, length, codes}
 use Rattle.std.specs.Fmt.{decimal, signed_decimal}
 use Rattle.std.specs.List.{list_all}
 use Rattle.csv.specs.Writing.{default_writer, with_flexible, row_text, writer_setup, fields_written, has_written}
