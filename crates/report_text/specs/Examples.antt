@@ -1,8 +1,11 @@
 -- Worked texts, as facts that compute. Source: this project's own.
-use Rattle.std.specs.Prelude.{◌≡◌, [], ◌∷◌, true, false, codes, refl}
+use Rattle.std.specs.Prelude.{◌≡◌, [], ◌∷◌, pos, negsuc, true, false, codes, refl}
 use Rattle.std.specs.Fmt.{digits}
+use Rattle.csv.specs.Writing.{fields_text, escaped, is_blank}
+use Rattle.blink_base.specs.declared.answer.Field.TheVariants.{Null, Number, Text, Date}
 use Rattle.blink_base.specs.declared.refusal.Refusal.TheVariants as refusal
 use Rattle.blink_base.specs.declared.value.Kind.TheVariants as kind
+use Rattle.report_text.specs.AnswerText.{answer_bytes}
 use Rattle.report_text.specs.Texts.{refusal_bytes, layout_bytes, created_bytes, dropped_bytes, reorganized_bytes, added_bytes}
 
 -- refusals without a name, with a name, and with numbers
@@ -39,3 +42,17 @@ LayoutsPrinted =
 pub layouts_printed_lem : LayoutsPrinted
 unfolding digits
 layouts_printed_lem = (refl, refl, refl, refl, refl, refl)
+
+-- an answer of two lines: NULL and a number below zero, a text that needs quotes and a date with zeros; and one of no line whose name is empty
+abbrev pub AnswersPrinted : Type 0
+AnswersPrinted =
+    (answer_bytes (record {
+      names = codes "a" ∷ codes "sum(b)" ∷ [];
+      lines = (Null ∷ Number (negsuc 11) ∷ []) ∷ (Text (codes "x, \"y\"") ∷ Date (pos 9990201) ∷ []) ∷ [];
+    })
+    ≡ codes "a,sum(b)\nNULL,-12\n\"x, \"\"y\"\"\",0999-02-01\n2 rows\n")
+    × (answer_bytes (record { names = [] ∷ []; lines = [] }) ≡ codes "\"\"\n0 rows\n")
+
+pub answers_printed_lem : AnswersPrinted
+unfolding digits fields_text escaped is_blank
+answers_printed_lem = (refl, refl)
