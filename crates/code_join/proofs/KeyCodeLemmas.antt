@@ -4,7 +4,7 @@ use Rattle.std.specs.Option.{option_or, is_some}
 use Rattle.std.specs.Map.{keys_of}
 use Rattle.std.proofs.lemmas.Option.{slice_get-map, get_or_from_slice_get}
 use Rattle.blink_base.specs.declared.value.Value.{Value}
-use Rattle.blink_lists.specs.Lists.{numbered, numbered_from}
+use Rattle.blink_lists.specs.Lists.{numbered_from}
 use Rattle.order_codes.specs.Dictionary.{codes_where}
 use Rattle.page_synopsis.specs.BitSets.{codes_set}
 use Rattle.code_join.specs.Keys.{Keyed, place_of_key, is_key}
