@@ -1,6 +1,6 @@
 //! Laws of keys, which their definitions meet.
 
-ghost use Rattle.code_join.specs.KeyLaws.{EntriesByPlace, EntriesOfKeys, PayloadsByPlace, PlacesByCode};
+ghost use Rattle.code_join.specs.KeyLaws.{EntriesByPlace, EntriesOfKeys, FirstKeysAreKeys, LaterKeysAreNew, PayloadsByPlace, PlacesByCode};
 
 /// The entry of a key is the one at its place among the keys. Source: this project's own.
 pub fn entries_by_place()
@@ -20,4 +20,14 @@ pub fn payloads_by_place()
 /// The place that is kept for a code is that of its value among the keys. Source: this project's own.
 pub fn places_by_code()
     ensures { PlacesByCode }
+{}
+
+/// Of keys none of which stands twice, one that stands behind others is none of those. Source: this project's own.
+pub fn later_keys_are_new()
+    ensures { LaterKeysAreNew }
+{}
+
+/// Where no key stands twice, none does among those in front. Source: this project's own.
+pub fn first_keys_are_keys()
+    ensures { FirstKeysAreKeys }
 {}
