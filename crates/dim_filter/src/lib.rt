@@ -1,0 +1,9 @@
+//! Key sets of dimensions, with the values that are wanted beside each key.
+#![tactic(auto)]
+
+mod page;
+mod rest;
+mod row_values;
+
+pub use page::collect;
+pub use rest::collect_rest;
