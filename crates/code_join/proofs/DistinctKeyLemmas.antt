@@ -1,10 +1,10 @@
 -- Keys none of which stands twice.
-use Rattle.std.proofs.Common.{◌≡◌, ℕ, suc, Bool, true, false, not, ◌&&◌, ◌||◌, [], ◌∷◌, ◌++◌, Option, Some, None, option_map, position, cond, refl, sym, ap, ◌∙◌, true≢false, List}
+use Rattle.std.proofs.Common.{◌≡◌, suc, Bool, true, false, not, ◌&&◌, ◌||◌, [], ◌∷◌, ◌++◌, Some, None, option_map, position, cond, refl, sym, ap, ◌∙◌, true≢false, List}
 use Rattle.std.specs.List.{list_any}
 use Rattle.std.specs.Map.{keys_of}
 use Rattle.std.proofs.lemmas.Bool.{and_parts}
 use Rattle.blink_base.specs.declared.value.Value.{Value}
-use Rattle.blink_base.specs.Values.{Row, same_value}
+use Rattle.blink_base.specs.Values.{same_value}
 use Rattle.blink_base.specs.ValueHash.{value_equiv}
 use Rattle.blink_lists.specs.Lists.{are_distinct}
 use Rattle.blink_lists.proofs.DistinctLemmas.{distinct-append, meet}

@@ -1,6 +1,5 @@
 -- What stands at the places of true values, from a place on.
-use Rattle.std.proofs.Common.{◌≡◌, ◌<◌, ◌≤◌, ℕ, zero, suc, Bool, true, false, ◌||◌, List, [], ◌∷◌, map, filter, drop, slice_index_or, slice_get, Option, Some, None, cond, refl, sym, ap, true≢false, arith}
-use Rattle.std.specs.List.{list_any, zip}
+use Rattle.std.proofs.Common.{◌≡◌, ◌<◌, ◌≤◌, ℕ, zero, suc, Bool, true, false, List, [], ◌∷◌, drop, slice_index_or, slice_get, Option, Some, None, refl, sym, ap, true≢false, arith}
 use Rattle.std.specs.Option.{is_some}
 use Rattle.blink_lists.specs.Lists.{any_true}
 use Rattle.blink_lists.proofs.GroupLemmas.{neither}

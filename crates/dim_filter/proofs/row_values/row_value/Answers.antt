@@ -1,4 +1,4 @@
-use Rattle.std.proofs.Common.{◌≡◌, ◌<◌, [], ap, sym, ◌∙◌, subst, slice_index_or}
+use Rattle.std.proofs.Common.{◌≡◌, [], ap, sym, ◌∙◌, subst, slice_index_or}
 use Rattle.std.specs.Prelude.{IfOk}
 use Rattle.std.proofs.lemmas.List.{get_or_read}
 use Rattle.dim_filter.proofs.CellRowLemmas.{classes_full, code_within, value_decoded}
@@ -16,5 +16,5 @@ pub returns-clause-value : goal.returns-clause-value
 returns-clause-value g c =
     let dict = get_or_read c.args.image.now.columns c.args.column c.index-dictionaries-column.result c.requires.column (c.index-dictionaries-column.is ∙ ap (λ l. slice_index_or l c.args.column c.index-dictionaries-column.result) c.dictionaries.ensures.columns) [] in
     let value =
-        value_decoded c.args.image.now c.args.cell c.args.row c.requires.valid c.requires.cell c.requires.row c.args.column c.decode.result.now c.requires.column (rw (dict, c.cell_classes.ensures, c.code-code.ensures) at c.decode.ensures.value) in
+    value_decoded c.args.image.now c.args.cell c.args.row c.requires.valid c.requires.cell c.requires.row c.args.column c.decode.result.now c.requires.column (rw (dict, c.cell_classes.ensures, c.code-code.ensures) at c.decode.ensures.value) in
     subst (λ v. IfOk c.copy.result (λ copy. copy ≡ v)) (sym value) c.copy.ensures
