@@ -2,6 +2,7 @@
 #![tactic(auto)]
 
 mod class_code;
+pub mod examples;
 mod key_codes;
 mod key_map;
 pub mod laws;

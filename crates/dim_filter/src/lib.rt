@@ -1,6 +1,7 @@
 //! Key sets of dimensions, with the values that are wanted beside each key.
 #![tactic(auto)]
 
+pub mod examples;
 mod page;
 mod rest;
 mod row_values;
