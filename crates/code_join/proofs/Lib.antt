@@ -1,0 +1,4 @@
+pub mod DistinctKeyLemmas
+pub mod EntryLemmas
+pub mod KeyCodeLemmas
+pub mod KeyLemmas

@@ -1,0 +1,4 @@
+pub mod Examples
+pub mod KeyCodes
+pub mod KeyLaws
+pub mod Keys

@@ -1,0 +1,3 @@
+pub mod CellRowLemmas
+pub mod PageLemmas
+pub mod SelectionLemmas

@@ -1,0 +1,2 @@
+pub mod OwnKeyLemmas
+pub mod PartLemmas
