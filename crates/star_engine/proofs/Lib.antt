@@ -1,5 +1,4 @@
 pub mod InsertedRowsLemmas
-pub mod LiteralLemmas
 pub mod RefusalLemmas
 pub mod SchemaLemmas
 pub mod SoundnessLemmas

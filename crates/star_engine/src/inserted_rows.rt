@@ -2,66 +2,17 @@
 ghost use Rattle.std.specs.Prelude.{◌≡◌, ◌≢◌, ◌≤◌, ◌<◌, ◌+◌, ◌^◌, Err, IsTrue, IfOk, IfSome, length, pos, nat_lt};
 ghost use Rattle.std.specs.List.{list_all, zip};
 ghost use Rattle.blink_base.specs.Values.{Row as Values};
-ghost use Rattle.blink_base.specs.Dates.{date_of};
 ghost use Rattle.blink_base.specs.RowFits.{fits, is_entry};
-ghost use Rattle.star_sql.specs.Literals.{literal_value, signed, text_if_short};
-ghost use Rattle.star_sql.specs.WellFormed.{is_literal, is_written_number, some_and_all};
+ghost use Rattle.star_sql.specs.WellFormed.{is_literal, some_and_all};
 ghost use Rattle.star_engine.specs.Causes.{IsAnswer};
 ghost use Rattle.star_engine.specs.LoadedRows.{are_written};
 ghost use Rattle.star_engine.specs.InsertedRows.{written_values, written_row, written_from};
 
 use crate::EngineError;
-use blink_base::{Column, Kind, List, Refusal, Row, Schema, Value, Word};
+use blink_base::{Column, List, Refusal, Row, Schema};
+use star_bind::literal_value;
 use star_sql::Literal;
-use std::alloc::{AllocError, Global};
-
-// A written number, as a value.
-fn number_value(minus: bool, number: i64) -> Value
-    requires { IsTrue (is_written_number number) }
-    ensures value { result ≡ Value.Int (signed minus number) }
-    ensures entry { IsTrue (is_entry Kind.Int result) }
-{
-    Value::Int(if minus { -number } else { number })
-}
-
-// A written text, as a value, where it is short enough.
-fn text_value(alloc: Global, word: &Word) -> Result<Option<Value>, AllocError>
-    ensures value { IfOk result (λ value. value ≡ text_if_short word.now) }
-    ensures entry { IfOk result (λ value. IfSome value (λ v. IsTrue (is_entry Kind.Text v))) }
-{
-    Ok(Value::of_text(word.copy(alloc)?))
-}
-
-// A written date, as a value, where it is one.
-fn date_value(alloc: Global, word: &Word) -> Option<Value>
-    ensures value { result ≡ literal_value Kind.Date (Literal.Date word.now) }
-    ensures entry { IfSome result (λ v. IsTrue (is_entry Kind.Date v)) }
-{
-    Value::read(alloc, Kind::Date, word.as_str().as_bytes()).ok()
-}
-
-// The value that a literal is at a column of a kind, where it may stand there.
-fn literal_value(alloc: Global, kind: Kind, literal: &Literal) -> Result<Option<Value>, AllocError>
-    requires { IsTrue (is_literal literal.now) }
-    ensures value { IfOk result (λ value. value ≡ literal_value kind literal.now) }
-    ensures entry { IfOk result (λ value. IfSome value (λ v. IsTrue (is_entry kind v))) }
-{
-    match literal {
-        Literal::Number { minus, value } => match kind {
-            Kind::Int => Ok(Some(number_value(*minus, *value))),
-            _ => Ok(None),
-        },
-        Literal::Text(word) => match kind {
-            Kind::Int => Ok(None),
-            Kind::Text => text_value(alloc, word),
-            Kind::Date => Ok(date_value(alloc, word)),
-        },
-        Literal::Date(word) => match kind {
-            Kind::Date => Ok(date_value(alloc, word)),
-            _ => Ok(None),
-        },
-    }
-}
+use std::alloc::Global;
 
 // The values of the literals of the row of this number, which are as many as the columns.
 fn values_of(
