@@ -7,7 +7,7 @@ use Rattle.blink_lists.specs.Lists.{numbers_from}
 use Rattle.blink_lists.specs.declared.limits.TheConstants.{PAGE_ROWS}
 use Rattle.row_bits.specs.Bits.{both_true, first_true}
 use Rattle.cell_scan.specs.Match.{bits_where, rows_of_page, selected_rows}
-use Rattle.cell_scan.specs.PageLaws.{SelectedRowsPass, OrIsEither, PagesAreRows}
+use Rattle.cell_scan.specs.PageLaws.{NothingPasses, SelectedRowsPass, OrIsEither, PagesAreRows}
 
 abbrev Rows : Type 0
 Rows = List (List ℕ)
@@ -54,6 +54,16 @@ and_is_both p q page = front_joined (λ a b. a && b) refl p q page (PAGE_ROWS - 
 all_rows_true : (page : Rows) → map (λ (row : List ℕ). true) page ≡ replicate (length page) true
 all_rows_true [] = refl
 all_rows_true (row ∷ page) = ap (λ l. true ∷ l) (all_rows_true page)
+
+no_rows_true : (page : Rows) (room : ℕ) → length page ≤ room → map (λ (row : List ℕ). false) page ++ replicate (room - length page) false ≡ replicate room false
+no_rows_true [] room le = ap (λ n. replicate n false) (omega arith)
+no_rows_true (row ∷ page) zero le = absurd (omega (arith, le))
+no_rows_true (row ∷ page) (suc room) le =
+    let same : suc room - suc (length page) ≡ room - length page = omega arith in
+    ap (λ n. false ∷ (map (λ (r : List ℕ). false) page ++ replicate n false)) same ∙ ap (λ l. false ∷ l) (no_rows_true page room (omega (arith, le)))
+
+pub nothing_passes : NothingPasses
+nothing_passes rows page = no_rows_true (rows_of_page rows page) PAGE_ROWS (omega (arith, length-take PAGE_ROWS (drop (page * PAGE_ROWS) rows)))
 
 pub first_bits : (page : Rows) → first_true (length page) ≡ bits_where (λ row. true) page
 first_bits page = ap (λ l. l ++ replicate (PAGE_ROWS - length page) false) (sym (all_rows_true page))

@@ -1,5 +1,5 @@
 -- Laws of pages: which rows are selected, page by page. Source: this project's own.
-use Rattle.std.specs.Prelude.{◌≡◌, ◌≤◌, ◌*◌, ℕ, Bool, ◌||◌, List, filter, length}
+use Rattle.std.specs.Prelude.{◌≡◌, ◌≤◌, ◌*◌, ℕ, Bool, false, ◌||◌, List, filter, length, replicate}
 use Rattle.std.specs.List.{flat_map}
 use Rattle.blink_lists.specs.Lists.{numbers_from}
 use Rattle.blink_lists.specs.declared.limits.TheConstants.{PAGE_ROWS}
@@ -13,6 +13,10 @@ SelectedRowsPass = (passes : List ℕ → Bool) (page : List (List ℕ)) → sel
 -- The law that the truth values of two conditions, joined by OR, are those of either.
 abbrev pub OrIsEither : Type 0
 OrIsEither = (p q : List ℕ → Bool) (page : List (List ℕ)) → some_true (bits_where p page) (bits_where q page) ≡ bits_where (λ row. p row || q row) page
+
+-- The law that no truth value is true of a page of which no row passes.
+abbrev pub NothingPasses : Type 0
+NothingPasses = (rows : List (List ℕ)) (page : ℕ) → bits_where (λ row. false) (rows_of_page rows page) ≡ replicate PAGE_ROWS false
 
 -- The law that the pages of a cell, one after another, are its rows.
 abbrev pub PagesAreRows : Type 0

@@ -1,6 +1,6 @@
 //! Laws of scans, which their definitions meet.
 
-ghost use Rattle.cell_scan.specs.PageLaws.{OrIsEither, PagesAreRows, SelectedRowsPass};
+ghost use Rattle.cell_scan.specs.PageLaws.{NothingPasses, OrIsEither, PagesAreRows, SelectedRowsPass};
 ghost use Rattle.cell_scan.specs.ValueTests.{SetsAreTests};
 
 /// The codes of a row are in the sets of codes of tests exactly where its values pass the tests. Source: after Raman et al.,
@@ -17,6 +17,11 @@ pub fn selected_rows_pass()
 /// The truth values of two conditions, joined by OR, are those of either. Source: this project's own.
 pub fn or_is_either()
     ensures { OrIsEither }
+{}
+
+/// No truth value is true of a page of which no row passes. Source: this project's own.
+pub fn nothing_passes()
+    ensures { NothingPasses }
 {}
 
 /// The pages of a cell, one after another, are its rows. Source: this project's own.
