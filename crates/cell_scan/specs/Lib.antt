@@ -1,0 +1,5 @@
+pub mod CodeTests
+pub mod Examples
+pub mod Match
+pub mod PageLaws
+pub mod ValueTests
