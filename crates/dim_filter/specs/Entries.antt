@@ -1,11 +1,10 @@
 -- Keys with wanted values, of selected rows of a dimension. Source: after Raman et al., ICDE 2008 (dimensions are filtered first).
-use Rattle.std.specs.Prelude.{◌*◌, ◌++◌, ℕ, pos, Bool, List, [], map, filter, take, drop, unwrap_or, slice_index_or}
-use Rattle.std.specs.List.{zip}
+use Rattle.std.specs.Prelude.{◌++◌, ℕ, pos, Bool, List, [], map, unwrap_or, slice_index_or}
 use Rattle.blink_base.specs.declared.value.Value.{Value}
 use Rattle.blink_base.specs.declared.value.Value.TheVariants.{Int}
 use Rattle.blink_base.specs.Values.{Row}
-use Rattle.blink_lists.specs.declared.limits.TheConstants.{PAGE_ROWS}
 use Rattle.cell_layout.specs.Image.{TableImage, cell_at, decoded_row}
+use Rattle.cell_scan.specs.Match.{rows_of_page, selected_rows}
 use Rattle.code_join.specs.Keys.{Keyed}
 
 -- the key of a row, with its wanted values in the order in which they are asked for
@@ -24,14 +23,6 @@ key_column image = unwrap_or image.schema.key 0
 abbrev pub cell_row : TableImage → ℕ → ℕ → Row
 cell_row image cell row = decoded_row image.columns (cell_at image cell).classes (slice_index_or (cell_at image cell).rows row [])
 
--- the codes of the rows of a page of a cell, pages counted from 0
-abbrev pub page_codes : TableImage → ℕ → ℕ → List (List ℕ)
-page_codes image cell page = take PAGE_ROWS (drop (page * PAGE_ROWS) (cell_at image cell).rows)
-
--- what stands at the places of true values
-abbrev pub selected : {X : Type 0} → List Bool → List X → List X
-selected bits xs = map (λ p. p.1) (filter (λ p. p.0) (zip bits xs))
-
 -- the rows of a page of a cell at whose places the truth values are true
-abbrev pub selected_rows : TableImage → ℕ → ℕ → List Bool → List Row
-selected_rows image cell page bits = map (decoded_row image.columns (cell_at image cell).classes) (selected bits (page_codes image cell page))
+abbrev pub chosen_rows : TableImage → ℕ → ℕ → List Bool → List Row
+chosen_rows image cell page bits = map (decoded_row image.columns (cell_at image cell).classes) (selected_rows bits (rows_of_page (cell_at image cell).rows page))

@@ -4,8 +4,9 @@ ghost use Rattle.blink_base.specs.declared.value.Value.TheVariants.{Int};
 ghost use Rattle.blink_lists.specs.Lists.{any_true};
 ghost use Rattle.cell_layout.specs.Image.{cell_at};
 ghost use Rattle.cell_layout.specs.Valid.{is_valid};
+ghost use Rattle.cell_scan.specs.Match.{rows_of_page};
 ghost use Rattle.code_join.specs.Keys.{are_keys, place_of_key};
-ghost use Rattle.dim_filter.specs.Entries.{collected, key_column, cell_row, page_codes, selected_rows};
+ghost use Rattle.dim_filter.specs.Entries.{collected, key_column, cell_row, chosen_rows};
 
 use crate::row_values::{row_value, row_values};
 use blink_lists::PAGE_ROWS;
@@ -35,14 +36,14 @@ pub fn collect<M: Ledger>(
     requires valid { IsTrue (is_valid image.now) }
     requires cell { cell < length image.now.cells }
     requires page { page * PAGE_ROWS < length (cell_at image.now cell).rows }
-    requires bits { any_true (drop (length (page_codes image.now cell page)) bits.now) ≡ false }
+    requires bits { any_true (drop (length (rows_of_page (cell_at image.now cell).rows page)) bits.now) ≡ false }
     requires key { IsSome image.now.schema.key }
     requires wanted { All (λ column. column < length image.now.columns) wanted.now }
-    requires absent { IsTrue (are_keys (collected (key_column image.now) wanted.now into.old (selected_rows image.now cell page bits.now))) }
-    requires few { length into.old + length (selected_rows image.now cell page bits.now) ≤ MOST_KEYS }
-    ensures keys { OnOk result (into.new ≡ collected (key_column image.now) wanted.now into.old (selected_rows image.now cell page bits.now)) }
+    requires absent { IsTrue (are_keys (collected (key_column image.now) wanted.now into.old (chosen_rows image.now cell page bits.now))) }
+    requires few { length into.old + length (chosen_rows image.now cell page bits.now) ≤ MOST_KEYS }
+    ensures keys { OnOk result (into.new ≡ collected (key_column image.now) wanted.now into.old (chosen_rows image.now cell page bits.now)) }
     // At most one value is decoded per selected row and column among the key and the wanted, also where memory is wanting.
-    ensures decodes { decodes.new ≤ decodes.old + length (selected_rows image.now cell page bits.now) * (1 + length wanted.now) }
+    ensures decodes { decodes.new ≤ decodes.old + length (chosen_rows image.now cell page bits.now) * (1 + length wanted.now) }
 {
     later_keys_are_new();
     let key = match image.schema().key {

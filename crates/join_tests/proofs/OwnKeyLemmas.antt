@@ -14,12 +14,13 @@ use Rattle.column_classes.specs.ColumnClasses.{are_divided, column_values}
 use Rattle.cell_layout.specs.Image.{TableImage, CellImage, cell_at, cell_rows, decoded_row, rows_of}
 use Rattle.cell_layout.specs.Layout.{cell_cmp}
 use Rattle.cell_layout.specs.Valid.{is_valid, is_cell, is_rest_row, are_keyed, most_cell_rows}
+use Rattle.cell_scan.specs.Match.{rows_of_page, selected_rows}
 use Rattle.code_join.specs.Keys.{Keyed, are_keys}
-use Rattle.dim_filter.specs.Entries.{entry_of, collected, key_column, page_codes, selected, selected_rows}
+use Rattle.dim_filter.specs.Entries.{entry_of, collected, key_column, chosen_rows}
 use Rattle.join_tests.proofs.PartLemmas.{Part, both, in-front, chosen, mapped, distinct-part}
 
 -- rows of the first page of a cell are rows of the cell
-page-part : (image : TableImage) (cell : ℕ) (bits : List Bool) → Part (selected_rows image cell 0 bits) (cell_rows image (cell_at image cell))
+page-part : (image : TableImage) (cell : ℕ) (bits : List Bool) → Part (chosen_rows image cell 0 bits) (cell_rows image (cell_at image cell))
 page-part image cell bits = mapped (decoded_row image.columns (cell_at image cell).classes) (chosen bits PAGE_ROWS (cell_at image cell).rows)
 
 -- rows of the first two cells are rows of the table
@@ -56,40 +57,40 @@ part-keys image wanted rows valid some part =
     ∙ distinct-part same_value (mapped (λ row. slice_index_or row (key_column image) (Int (pos 0))) part) (own-keys image valid some)
 
 module _ (image : TableImage) (wanted : List ℕ) (bits more : List Bool) (valid : IsTrue (is_valid image)) (some : IsSome image.schema.key) (two : length image.cells ≡ 2) where
-  first-part : Part (selected_rows image 0 0 bits) (rows_of image)
-  first-part = one-cell image image.cells (record { classes = []; rows = [] }) image.rest (selected_rows image 0 0 bits) two (page-part image 0 bits)
+  first-part : Part (chosen_rows image 0 0 bits) (rows_of image)
+  first-part = one-cell image image.cells (record { classes = []; rows = [] }) image.rest (chosen_rows image 0 0 bits) two (page-part image 0 bits)
 
-  both-part : Part (selected_rows image 0 0 bits ++ selected_rows image 1 0 more) (rows_of image)
-  both-part = two-cells image image.cells (record { classes = []; rows = [] }) image.rest (selected_rows image 0 0 bits) (selected_rows image 1 0 more) two (page-part image 0 bits) (page-part image 1 more)
+  both-part : Part (chosen_rows image 0 0 bits ++ chosen_rows image 1 0 more) (rows_of image)
+  both-part = two-cells image image.cells (record { classes = []; rows = [] }) image.rest (chosen_rows image 0 0 bits) (chosen_rows image 1 0 more) two (page-part image 0 bits) (page-part image 1 more)
 
-  pub first_keys : IsTrue (are_keys (collected (key_column image) wanted [] (selected_rows image 0 0 bits)))
-  first_keys = part-keys image wanted (selected_rows image 0 0 bits) valid some first-part
+  pub first_keys : IsTrue (are_keys (collected (key_column image) wanted [] (chosen_rows image 0 0 bits)))
+  first_keys = part-keys image wanted (chosen_rows image 0 0 bits) valid some first-part
 
-  pub second_keys : IsTrue (are_keys (collected (key_column image) wanted (collected (key_column image) wanted [] (selected_rows image 0 0 bits)) (selected_rows image 1 0 more)))
+  pub second_keys : IsTrue (are_keys (collected (key_column image) wanted (collected (key_column image) wanted [] (chosen_rows image 0 0 bits)) (chosen_rows image 1 0 more)))
   second_keys =
-      subst (λ keys. IsTrue (are_keys keys)) (map-append (entry_of (key_column image) wanted) (selected_rows image 0 0 bits) (selected_rows image 1 0 more))
-      (part-keys image wanted (selected_rows image 0 0 bits ++ selected_rows image 1 0 more) valid some both-part)
+      subst (λ keys. IsTrue (are_keys keys)) (map-append (entry_of (key_column image) wanted) (chosen_rows image 0 0 bits) (chosen_rows image 1 0 more))
+      (part-keys image wanted (chosen_rows image 0 0 bits ++ chosen_rows image 1 0 more) valid some both-part)
 
-pub few_rows : (image : TableImage) (cell : ℕ) (bits : List Bool) → length (selected_rows image cell 0 bits) ≤ PAGE_ROWS
+pub few_rows : (image : TableImage) (cell : ℕ) (bits : List Bool) → length (chosen_rows image cell 0 bits) ≤ PAGE_ROWS
 few_rows image cell bits =
-    let e = length-map (selected bits (page_codes image cell 0)) (decoded_row image.columns (cell_at image cell).classes) in
-    let f = short-selected bits (page_codes image cell 0) in
+    let e = length-map (selected_rows bits (rows_of_page (cell_at image cell).rows 0)) (decoded_row image.columns (cell_at image cell).classes) in
+    let f = short-selected bits (rows_of_page (cell_at image cell).rows 0) in
     let g = length-take PAGE_ROWS (cell_at image cell).rows in
     omega (arith, e, f, g)
   where
-    short-selected : (bs : List Bool) (xs : List (List ℕ)) → length (selected bs xs) ≤ length xs
+    short-selected : (bs : List Bool) (xs : List (List ℕ)) → length (selected_rows bs xs) ≤ length xs
     short-selected [] xs = omega arith
     short-selected (b ∷ bs) [] = omega arith
     short-selected (b ∷ bs) (x ∷ xs) = by b (short-selected bs xs)
       where
-        by : (c : Bool) → length (selected bs xs) ≤ length xs → length (map (λ p. p.1) (cond c ((c, x) ∷ filter (λ p. p.0) (zip bs xs)) (filter (λ p. p.0) (zip bs xs)))) ≤ suc (length xs)
+        by : (c : Bool) → length (selected_rows bs xs) ≤ length xs → length (map (λ p. p.1) (cond c ((c, x) ∷ filter (λ p. p.0) (zip bs xs)) (filter (λ p. p.0) (zip bs xs)))) ≤ suc (length xs)
         by true h = omega (arith, h)
         by false h = omega (arith, h)
 
-pub few_kept : (image : TableImage) (wanted : List ℕ) (bits : List Bool) (keys : Keyed) → keys ≡ collected (key_column image) wanted [] (selected_rows image 0 0 bits) → length keys ≤ PAGE_ROWS
+pub few_kept : (image : TableImage) (wanted : List ℕ) (bits : List Bool) (keys : Keyed) → keys ≡ collected (key_column image) wanted [] (chosen_rows image 0 0 bits) → length keys ≤ PAGE_ROWS
 few_kept image wanted bits keys e =
     let n = ap length e in
-    let f = length-map (selected_rows image 0 0 bits) (entry_of (key_column image) wanted) in
+    let f = length-map (chosen_rows image 0 0 bits) (entry_of (key_column image) wanted) in
     let g = few_rows image 0 bits in
     omega (arith, n, f, g)
 
@@ -101,6 +102,6 @@ clear_behind (b ∷ bits) zero clear = rw (clear 0 (omega arith)) (clear_behind 
 clear_behind (b ∷ bits) (suc n) clear = clear_behind bits n (λ k le. clear (suc k) (omega (arith, le)))
 
 pub clear_page : (image : TableImage) (cell n : ℕ) (bits : List Bool) → n ≡ length (cell_at image cell).rows → n ≤ PAGE_ROWS → ((k : ℕ) → n ≤ k → slice_index_or bits k false ≡ false)
-    → any_true (drop (length (page_codes image cell 0)) bits) ≡ false
+    → any_true (drop (length (rows_of_page (cell_at image cell).rows 0)) bits) ≡ false
 clear_page image cell n bits e few clear =
-    clear_behind bits (length (page_codes image cell 0)) (λ k le. clear k (let f = length-take PAGE_ROWS (cell_at image cell).rows in omega (arith, e, few, le, f)))
+    clear_behind bits (length (rows_of_page (cell_at image cell).rows 0)) (λ k le. clear k (let f = length-take PAGE_ROWS (cell_at image cell).rows in omega (arith, e, few, le, f)))

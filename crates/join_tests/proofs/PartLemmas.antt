@@ -4,7 +4,7 @@ use Rattle.std.specs.List.{list_any, zip}
 use Rattle.std.proofs.lemmas.Bool.{and_parts, and_from}
 use Rattle.blink_lists.specs.Lists.{are_distinct}
 use Rattle.blink_lists.proofs.GroupLemmas.{neither}
-use Rattle.dim_filter.specs.Entries.{selected}
+use Rattle.cell_scan.specs.Match.{selected_rows}
 
 pub data Part {X : Type 0} : List X → List X → Type 0 where
   none : Part [] []
@@ -26,17 +26,6 @@ module _ {X : Type 0} where
   in-front more (kept x p) = kept x (in-front more p)
   in-front more (left y p) = left y (in-front more p)
 
-  -- what true values choose of the front
-  pub chosen : (bits : List Bool) (n : ℕ) (xs : List X) → Part (selected bits (take n xs)) xs
-  chosen [] n xs = no-part xs
-  chosen (b ∷ bits) zero xs = no-part xs
-  chosen (b ∷ bits) (suc n) [] = none
-  chosen (b ∷ bits) (suc n) (x ∷ xs) = by b (chosen bits n xs)
-    where
-      by : (c : Bool) → Part (selected bits (take n xs)) xs → Part (map (λ p. p.1) (cond c ((c, x) ∷ filter (λ p. p.0) (zip bits (take n xs))) (filter (λ p. p.0) (zip bits (take n xs))))) (x ∷ xs)
-      by true p = kept x p
-      by false p = left x p
-
   any-part : (p : X → Bool) {xs ys : List X} → Part xs ys → list_any p ys ≡ false → list_any p xs ≡ false
   any-part p none h = h
   any-part p (kept x {xs} {ys} q) h = let n = neither (p x) (list_any p ys) h in rw n.0 (any-part p q n.1)
@@ -57,3 +46,14 @@ pub mapped : {X Y : Type 0} (f : X → Y) {xs ys : List X} → Part xs ys → Pa
 mapped f none = none
 mapped f (kept x p) = kept (f x) (mapped f p)
 mapped f (left y p) = left (f y) (mapped f p)
+
+-- what true values choose of the front
+pub chosen : (bits : List Bool) (n : ℕ) (xs : List (List ℕ)) → Part (selected_rows bits (take n xs)) xs
+chosen [] n xs = no-part xs
+chosen (b ∷ bits) zero xs = no-part xs
+chosen (b ∷ bits) (suc n) [] = none
+chosen (b ∷ bits) (suc n) (x ∷ xs) = by b (chosen bits n xs)
+  where
+    by : (c : Bool) → Part (selected_rows bits (take n xs)) xs → Part (map (λ p. p.1) (cond c ((c, x) ∷ filter (λ p. p.0) (zip bits (take n xs))) (filter (λ p. p.0) (zip bits (take n xs))))) (x ∷ xs)
+    by true p = kept x p
+    by false p = left x p

@@ -5,7 +5,7 @@ ghost use Rattle.blink_base.specs.RowFits.{fits, is_schema};
 ghost use Rattle.blink_lists.specs.Lists.{any_true};
 ghost use Rattle.cell_layout.specs.Image.{cell_at};
 ghost use Rattle.cell_layout.specs.Valid.{is_valid};
-ghost use Rattle.dim_filter.specs.Entries.{page_codes};
+ghost use Rattle.cell_scan.specs.Match.{rows_of_page};
 
 use blink_base::{Column, Kind, List, Row, Schema, Value, Word};
 use blink_lists::{MOST_ROWS, PAGE_ROWS};
@@ -128,8 +128,8 @@ fn page_keys<M: Ledger>(
     requires key { IsSome image.now.schema.key }
     requires some { 0 < length (cell_at image.now 0).rows }
     requires more { 0 < length (cell_at image.now 1).rows }
-    requires first { any_true (drop (length (page_codes image.now 0 0)) first.now) ≡ false }
-    requires second { any_true (drop (length (page_codes image.now 1 0)) second.now) ≡ false }
+    requires first { any_true (drop (length (rows_of_page (cell_at image.now 0).rows 0)) first.now) ≡ false }
+    requires second { any_true (drop (length (rows_of_page (cell_at image.now 1).rows 0)) second.now) ≡ false }
     requires wanted { All (λ column. column < length image.now.columns) wanted.now }
 {
     let mut keys = KeyMap::new(alloc);

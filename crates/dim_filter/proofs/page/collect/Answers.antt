@@ -1,7 +1,7 @@
 use Rattle.std.proofs.Common.{◌+◌, ◌*◌, length, ap, sym, ◌∙◌, arith}
 use Rattle.blink_base.specs.declared.schema.Schema.{Schema}
 use Rattle.code_join.specs.declared.limits.TheConstants.{MOST_KEYS}
-use Rattle.dim_filter.specs.Entries.{collected, key_column, selected_rows}
+use Rattle.dim_filter.specs.Entries.{collected, key_column, chosen_rows}
 use Rattle.dim_filter.proofs.PageLemmas.{no_row, next_in, next_new, next_few, next_put, next_counted, none-collected}
 use Rattle.dim_filter.proofs.page.collect.Goals as goal
 
@@ -23,7 +23,7 @@ pub returns-in_err-put_row-clause-decodes : goal.returns-in_err-put_row-clause-d
 returns-in_err-put_row-clause-decodes g c =
     let counted =
     next_counted c.args.image.now c.args.cell c.args.page c.args.bits.now c.args.wanted.now c.args.into.now c.loop-place.into c.loop-place.from c.in-Some-next_set.place c.requires.bits c.in-Some-next_set.ensures.place c.in-Some-next_set.ensures.least c.loop-place.invariant.left
-    c.loop-place.decodes c.put_row.new.decodes (c.args.decodes.now + length (selected_rows c.args.image.now c.args.cell c.args.page c.args.bits.now) * (1 + length c.args.wanted.now)) (1 + length c.args.wanted.now) c.loop-place.invariant.counted
+    c.loop-place.decodes c.put_row.new.decodes (c.args.decodes.now + length (chosen_rows c.args.image.now c.args.cell c.args.page c.args.bits.now) * (1 + length c.args.wanted.now)) (1 + length c.args.wanted.now) c.loop-place.invariant.counted
     c.put_row.ensures.decodes in
     omega (arith, counted)
 
@@ -34,7 +34,7 @@ loop-place-preserved g c = record {
       c.in-Some.key (ap (λ (s : Schema). s.key) (sym c.schema.ensures) ∙ c.in-Some.is) c.put_row.new.into c.in_ok-put_row.ensures.keys;
   counted =
       next_counted c.args.image.now c.args.cell c.args.page c.args.bits.now c.args.wanted.now c.args.into.now c.loop-place.into c.loop-place.from c.in-Some-next_set.place c.requires.bits c.in-Some-next_set.ensures.place c.in-Some-next_set.ensures.least c.loop-place.invariant.left
-      c.loop-place.decodes c.put_row.new.decodes (c.args.decodes.now + length (selected_rows c.args.image.now c.args.cell c.args.page c.args.bits.now) * (1 + length c.args.wanted.now)) (1 + length c.args.wanted.now) c.loop-place.invariant.counted
+      c.loop-place.decodes c.put_row.new.decodes (c.args.decodes.now + length (chosen_rows c.args.image.now c.args.cell c.args.page c.args.bits.now) * (1 + length c.args.wanted.now)) (1 + length c.args.wanted.now) c.loop-place.invariant.counted
       c.put_row.ensures.decodes;
   within = let place = c.in-Some-next_set.ensures.place.1 in omega (arith, place);
 }
