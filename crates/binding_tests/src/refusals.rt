@@ -26,7 +26,7 @@ fn told(alloc: Global, text: &str) -> Result<String, AllocError> {
 }
 
 // Statements, and what refuses each.
-const QUERIES: [(&str, &str); 35] = [
+const QUERIES: [(&str, &str); 37] = [
     ("SELECT a FROM p", "ok"),
     ("SELECT a FROM x", "unknown table x"),
     ("SELECT z FROM p, x, y", "unknown table x"),
@@ -58,6 +58,14 @@ const QUERIES: [(&str, &str); 35] = [
         "not a star query",
     ),
     ("SELECT v FROM f, d WHERE fk <> k", "not a star query"),
+    (
+        "SELECT fk, n FROM f, d WHERE fk = k AND (fk = 1 OR n = 'two')",
+        "not a star query",
+    ),
+    (
+        "SELECT n, AVG(fk) FROM f, d WHERE fk = k GROUP BY n",
+        "not a star query",
+    ),
     ("SELECT v FROM f, d, e WHERE fk = k AND fk = j", "ok"),
     ("SELECT n FROM d, e WHERE k = j", "ok"),
     ("SELECT n FROM e, d WHERE k = j", "ok"),
