@@ -9,7 +9,7 @@ use Rattle.blink_lists.specs.Lists.{numbers_from, numbered_from}
 use Rattle.page_synopsis.specs.declared.narrow.Range.{Range}
 use Rattle.page_synopsis.specs.Runs.{before_runs, runs_of, run_codes, runs_codes, lies_in, are_above, are_runs}
 use Rattle.page_synopsis.specs.BitSets.{codes_set_from, all_below}
-use Rattle.page_synopsis.specs.Sets.{RunsAreCodes}
+use Rattle.page_synopsis.specs.Sets.{CodesLieInRuns, RunsAreCodes}
 use Rattle.page_synopsis.specs.declared.limits.TheConstants.{MOST_RUNS}
 
 -- each run has a code
@@ -150,6 +150,9 @@ in_runs code from [] f = refl
 in_runs code from (run ∷ runs) f =
     list_any-append (λ c. c == code) (run_codes run) (runs_codes runs)
     ∙ (λ i. in_run code run f.1 i || in_runs code (run.high + 2) runs f.2 i)
+
+pub codes_lie_in_runs : CodesLieInRuns
+codes_lie_in_runs code runs are = in_runs code 0 runs (from_are_runs runs are)
 
 -- ---- the set codes from one on, step by step
 

@@ -1,8 +1,8 @@
 -- The truth values of a page.
-use Rattle.std.proofs.Common.{◌≡◌, ℕ, zero, suc, ◌+◌, ◌-◌, ◌*◌, ◌/◌, ◌%◌, ◌<◌, ◌≤◌, Bool, true, false, List, [], ◌∷◌, map, replicate, length, get_or, refl, sym, ap, ◌∙◌, arith, inl, inr, length-append, Option, Some, None, IfSome, IfNone}
+use Rattle.std.proofs.Common.{◌≡◌, ℕ, zero, suc, ◌+◌, ◌-◌, ◌*◌, ◌/◌, ◌%◌, ◌<◌, ◌≤◌, Bool, true, false, List, [], ◌∷◌, map, replicate, length, get_or, set, refl, sym, ap, ◌∙◌, arith, inl, inr, length-append, Option, Some, None, IfSome, IfNone}
 use Rattle.std.specs.List.{zip}
-use Rattle.std.proofs.lemmas.Bool.{cases_lt}
-use Rattle.std.proofs.lemmas.List.{ext_get_or, length-replicate, get_or-replicate, get_or_append_left, get_or-append_right, get_or_past}
+use Rattle.std.proofs.lemmas.Bool.{cases_eq, cases_lt}
+use Rattle.std.proofs.lemmas.List.{ext_get_or, length-replicate, length-set, get_or-set_same, get_or-set_other, get_or-replicate, get_or_append_left, get_or-append_right, get_or_past}
 use Rattle.std.proofs.lemmas.Nat.Bits.{bit_at-zero}
 use Rattle.row_bits.specs.Bits.{is_set, bits_of, first_true}
 use Rattle.row_bits.proofs.WordLemmas.{bits_at, length_bits, clear_behind}
@@ -93,3 +93,15 @@ module _ (words : List ℕ) (bits : List Bool) (long : length words ≡ 16) (is 
   pub told_none : (o : Option ℕ) → IfNone o ((k : ℕ) → from ≤ k → is_set words k ≡ false) → IfNone o ((k : ℕ) → from ≤ k → get_or bits k false ≡ false)
   told_none None h = λ k le. told k ∙ h k le
   told_none (Some place) h = tt
+
+-- ---- a place that is put
+
+pub page_put : (old new : List ℕ) (bits : List Bool) (place : ℕ) (value : Bool) → bits_of 1024 old ≡ bits → place < 1024 → is_set new place ≡ value
+    → ((k : ℕ) → (k ≡ place → ⊥) → is_set new k ≡ is_set old k) → bits_of 1024 new ≡ set bits place value
+page_put old new bits place value view lt here others =
+    let long : length bits ≡ 1024 = sym (ap length view) ∙ length_bits 1024 old in
+    same_bits 1024 new (set bits place value) (length-set bits place value ∙ long)
+    (λ k in_page. elim (cases_eq k place) [
+      | inl same ↦ ap (is_set new) same ∙ here ∙ sym (ap (λ j. get_or (set bits place value) j false) same ∙ get_or-set_same bits place value false (omega (arith, lt, long)))
+      | inr ne ↦ others k ne ∙ sym (get_or-set_other bits place k value false ne ∙ ap (λ l. get_or l k false) (sym view) ∙ bits_at 1024 old k false in_page)
+    ])

@@ -1,10 +1,14 @@
 -- The bits of words by their places.
 use Rattle.std.proofs.Common.{◌≡◌, ℕ, zero, suc, ◌+◌, ◌-◌, ◌*◌, ◌/◌, ◌%◌, ◌^◌, ◌<◌, ◌≤◌, ◌==◌, Bool, true, false, ◌&&◌, ◌||◌, List, ◌∷◌, ◌++◌, map, length, get_or, set, count_by, cond, min, max, bit_and, bit_or, refl, sym, ap, ◌∙◌, arith, inl, inr, ◌⊎◌}
+use mir.Syntax.{w64}
+use mir.Val.{bool_byte}
+use native.Mathlib.Nat.{pow-suc}
+use lib.Pow.{pow_mono}
 use Rattle.std.specs.Int.{bit_at}
 use Rattle.std.proofs.lemmas.Bool.{eq-eqb, ne_eqb, cases_eq, cases_lt}
 use Rattle.std.proofs.lemmas.List.{get_or_past, get_or-set_same, get_or-set_other}
 use Rattle.std.proofs.lemmas.List.Sums.{sum_by-append}
-use Rattle.std.proofs.lemmas.Nat.Bits.{bit_at-zero, bit_at-lt, bit_at_and, bit_at_or, bit_at_mask_inside, bit_at_mask_below, bit_at_mask_above}
+use Rattle.std.proofs.lemmas.Nat.Bits.{bit_at-zero, bit_at-lt, bit_at_and, bit_at_or, bit_at_not, bit_at_mask_inside, bit_at_mask_below, bit_at_mask_above}
 use Rattle.std.specs.Int.RustNames.{count_ones}
 use Rattle.blink_lists.specs.Lists.{numbers_from}
 use Rattle.blink_lists.proofs.NumberLemmas.{numbers-at, length-numbers}
@@ -77,6 +81,72 @@ or_same words at m bit k there e lt none =
     let w = get_or words at 0 in
     let same : max (bit_at w bit) 0 ≡ bit_at w bit = omega arith in
     same_word words at (bit_or w m) bit k there e lt ∙ ap (λ b. b == 1) (bit_at_or w m bit ∙ ap (λ b. max (bit_at w bit) b) none ∙ same) ∙ sym (set_at words at bit k e lt)
+
+-- a word with one bit put
+abbrev pub with_bit : ℕ → ℕ → ℕ → ℕ
+with_bit w x bit = bit_or (bit_and w (18446744073709551615 - 1 * 2 ^ bit % 18446744073709551616)) (x * 2 ^ bit % 18446744073709551616)
+
+single : (x bit : ℕ) → bit < 64 → x ≡ 1 → x * 2 ^ bit % 18446744073709551616 ≡ 2 ^ suc bit - 2 ^ bit
+single x bit lt one = let le : bit ≤ 63 = omega (arith, lt) in let small : 2 ^ bit ≤ 2 ^ 63 = pow_mono le in let twice = pow-suc 2 bit in rw one (omega (arith, small, twice))
+
+none : (x bit : ℕ) → x ≡ 0 → x * 2 ^ bit % 18446744073709551616 ≡ 0
+none x bit e = let zeros : x * 2 ^ bit ≡ 0 = ap (λ n. n * 2 ^ bit) e ∙ omega arith in omega (arith, zeros)
+
+single_fits : (bit : ℕ) → 1 * 2 ^ bit % 18446744073709551616 < 2 ^ 64
+single_fits bit = omega arith
+
+with_bit_at : (w x bit b : ℕ) → b < 64 → bit_at (with_bit w x bit) b ≡ max (min (bit_at w b) (1 - bit_at (1 * 2 ^ bit % 18446744073709551616) b)) (bit_at (x * 2 ^ bit % 18446744073709551616) b)
+with_bit_at w x bit b lt =
+    let m = 1 * 2 ^ bit % 18446744073709551616 in
+    let n = x * 2 ^ bit % 18446744073709551616 in
+    bit_at_or (bit_and w (18446744073709551615 - m)) n b
+    ∙ ap (λ k. max k (bit_at n b)) (bit_at_and w (18446744073709551615 - m) b ∙ ap (λ k. min (bit_at w b) k) (bit_at_not w64 m b (single_fits bit) lt))
+
+-- the bit that is put
+bit_put : (value : Bool) (w x bit : ℕ) → bit < 64 → x ≡ bool_byte value → (bit_at (with_bit w x bit) bit == 1) ≡ value
+bit_put true w x bit lt e =
+    let there : bit_at (x * 2 ^ bit % 18446744073709551616) bit ≡ 1 = ap (λ n. bit_at n bit) (single x bit lt e) ∙ bit_at_mask_inside bit (suc bit) bit (omega arith) (omega arith) in
+    let here : bit_at (1 * 2 ^ bit % 18446744073709551616) bit ≡ 1 = ap (λ n. bit_at n bit) (single 1 bit lt refl) ∙ bit_at_mask_inside bit (suc bit) bit (omega arith) (omega arith) in
+    eq-eqb (bit_at (with_bit w x bit) bit) 1 (omega (arith, with_bit_at w x bit bit lt, there, here))
+bit_put false w x bit lt e =
+    let there : bit_at (x * 2 ^ bit % 18446744073709551616) bit ≡ 0 = ap (λ n. bit_at n bit) (none x bit e) ∙ bit_at-zero bit in
+    let here : bit_at (1 * 2 ^ bit % 18446744073709551616) bit ≡ 1 = ap (λ n. bit_at n bit) (single 1 bit lt refl) ∙ bit_at_mask_inside bit (suc bit) bit (omega arith) (omega arith) in
+    ne_eqb (bit_at (with_bit w x bit) bit) 1 (λ one. omega (arith, with_bit_at w x bit bit lt, there, here, one))
+
+-- no other bit is there
+no_other : (x bit b : ℕ) → bit < 64 → x < 2 → (b ≡ bit → ⊥) → bit_at (x * 2 ^ bit % 18446744073709551616) b ≡ 0
+no_other zero bit b lt in2 ne = ap (λ n. bit_at n b) (none zero bit refl) ∙ bit_at-zero b
+no_other (suc zero) bit b lt in2 ne =
+    ap (λ n. bit_at n b) (single 1 bit lt refl) ∙ elim (cases_lt b bit) [ inl under ↦ bit_at_mask_below bit (suc bit) b under | inr le ↦ bit_at_mask_above bit (suc bit) b (omega (arith, le, ne)) ]
+no_other (suc (suc x)) bit b lt in2 ne = absurd (omega (arith, in2))
+
+-- the other bits stay
+bit_stays : (w x bit b : ℕ) → bit < 64 → b < 64 → x < 2 → (b ≡ bit → ⊥) → bit_at (with_bit w x bit) b ≡ bit_at w b
+bit_stays w x bit b lt in64 in2 ne =
+    let small = bit_at-lt w b in
+    omega (arith, with_bit_at w x bit b in64, no_other x bit b lt in2 ne, no_other 1 bit b lt (omega arith) ne, small)
+
+pub put_here : (value : Bool) (words : List ℕ) (x place : ℕ) → place < length words * 64 → x ≡ bool_byte value
+    → is_set (set words (place / 64) (with_bit (get_or words (place / 64) 0) x (place % 64))) place ≡ value
+put_here value words x place lt e =
+    same_word words (place / 64) (with_bit (get_or words (place / 64) 0) x (place % 64)) (place % 64) place (omega (arith, lt)) (omega arith) (omega arith)
+    ∙ bit_put value (get_or words (place / 64) 0) x (place % 64) (omega arith) e
+
+byte_small : (value : Bool) → bool_byte value < 2
+byte_small true = omega arith
+byte_small false = omega arith
+
+pub put_elsewhere : (value : Bool) (words : List ℕ) (x place k : ℕ) → place < length words * 64 → x ≡ bool_byte value → (k ≡ place → ⊥)
+    → is_set (set words (place / 64) (with_bit (get_or words (place / 64) 0) x (place % 64))) k ≡ is_set words k
+put_elsewhere value words x place k lt e ne =
+    let w = with_bit (get_or words (place / 64) 0) x (place % 64) in
+    elim (cases_eq (k / 64) (place / 64)) [
+      | inl here ↦
+          same_word words (place / 64) w (k % 64) k (omega (arith, lt)) (omega (arith, here)) (omega arith)
+          ∙ ap (λ b. b == 1) (bit_stays (get_or words (place / 64) 0) x (place % 64) (k % 64) (omega arith) (omega arith) (omega (arith, e, byte_small value)) (λ same. ne (omega (arith, here, same))))
+          ∙ sym (set_at words (place / 64) (k % 64) k (omega (arith, here)) (omega arith))
+      | inr other ↦ other_word words (place / 64) w k other
+    ]
 
 -- the places from low up to high are set as far as `to`, the others are as they were
 pub record Filled (old new : List ℕ) (low high to : ℕ) : Type 0 where

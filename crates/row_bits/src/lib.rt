@@ -5,4 +5,4 @@ mod page_bits;
 mod words;
 
 pub use page_bits::PageBits;
-pub use words::{and_with, count_set, fill, is_set, next_clear, next_set, or_with};
+pub use words::{and_with, count_set, fill, is_set, next_clear, next_set, or_with, put};

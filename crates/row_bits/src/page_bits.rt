@@ -1,8 +1,8 @@
 // A truth value per row of a page.
-ghost use Rattle.std.specs.Prelude.{◌≡◌, ◌<◌, ◌≤◌, ℕ, true, false, IfSome, IfNone, replicate, slice_index_or, count_by};
+ghost use Rattle.std.specs.Prelude.{◌≡◌, ◌<◌, ◌≤◌, ℕ, true, false, IfSome, IfNone, replicate, slice_index_or, slice_set, count_by};
 ghost use Rattle.row_bits.specs.Bits.{first_true, both_true, some_true};
 
-use crate::words::{and_with, count_set, fill, is_set, next_set, or_with};
+use crate::words::{and_with, count_set, fill, is_set, next_set, or_with, put};
 use blink_lists::PAGE_ROWS;
 use std::marker::Model;
 
@@ -58,6 +58,14 @@ impl PageBits {
         let mut words = self.words;
         or_with(&mut words, &other.words);
         PageBits { words }
+    }
+
+    /// Puts a truth value at a place. It takes no memory.
+    pub fn set(&mut self, place: usize, value: bool)
+        requires { place < PAGE_ROWS }
+        ensures { self.new ≡ slice_set self.old place value }
+    {
+        put(&mut self.words, place, value);
     }
 
     /// Whether the value at a place is true. It takes no memory.

@@ -1,5 +1,5 @@
 // The bits of words, 64 places a word, the lowest bit first.
-ghost use Rattle.std.specs.Prelude.{◌≡◌, ◌<◌, ◌≤◌, ◌+◌, ◌-◌, ◌*◌, ◌^◌, ◌&&◌, ◌||◌, ℕ, true, false, IfSome, IfNone, length, count_by};
+ghost use Rattle.std.specs.Prelude.{◌≡◌, ◌≢◌, ◌<◌, ◌≤◌, ◌+◌, ◌-◌, ◌*◌, ◌^◌, ◌&&◌, ◌||◌, ℕ, true, false, IfSome, IfNone, length, count_by};
 ghost use Rattle.std.specs.Int.{bit_at};
 ghost use Rattle.row_bits.specs.Bits.{is_set, bits_of};
 
@@ -55,6 +55,16 @@ pub fn fill(words: &mut [u64], low: usize, high: usize)
             words[at] |= mask(low.saturating_sub(at * 64), (high - at * 64).min(64));
         }
     }
+}
+
+/// Sets the bit of a place, or clears it. It takes no memory. Source: this project's own.
+pub fn put(words: &mut [u64], place: usize, value: bool)
+    requires { place < length words.old * 64 }
+    ensures here { is_set words.new place ≡ value }
+    ensures others { (k : ℕ) → k ≢ place → is_set words.new k ≡ is_set words.old k }
+{
+    let others = words[place / 64] & !(1 << (place % 64));
+    words[place / 64] = others | u64::from(value) << (place % 64);
 }
 
 /// Keeps the places that are set in both, of one length. It takes no memory. Source: this project's own.

@@ -1,0 +1,3 @@
+pub mod CodeTestLemmas
+pub mod PageLemmas
+pub mod ValueTestLemmas

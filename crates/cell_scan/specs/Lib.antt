@@ -1,0 +1,4 @@
+pub mod CodeTests
+pub mod Match
+pub mod PageLaws
+pub mod ValueTests
