@@ -1,0 +1,3 @@
+pub mod KeyCodes
+pub mod KeyLaws
+pub mod Keys
