@@ -1,6 +1,7 @@
 -- The truth values of pages: which rows they select, how they are joined, and how they are put row by row.
-use Rattle.std.proofs.Common.{◌≡◌, ℕ, zero, suc, ◌+◌, ◌-◌, ◌*◌, ◌<◌, ◌≤◌, Bool, true, false, ◌&&◌, ◌||◌, List, [], ◌∷◌, ◌++◌, map, filter, length, take, drop, replicate, get_or, set, refl, sym, ap, ◌∙◌, arith}
-use Rattle.std.proofs.lemmas.List.{drop_all, drop-drop, length-take-le, take-append-drop}
+use Rattle.std.proofs.Common.{◌≡◌, ℕ, zero, suc, ◌+◌, ◌-◌, ◌*◌, ◌<◌, ◌≤◌, Bool, true, false, ◌&&◌, ◌||◌, List, [], ◌∷◌, ◌++◌, map, filter, length, take, drop, replicate, get_or, set, min, Option, Some, None, IfNone, is_some, true≢false, refl, sym, ap, ◌∙◌, arith}
+use Rattle.std.proofs.Math.Nat.{min_comm}
+use Rattle.std.proofs.lemmas.List.{drop_all, drop-drop, get_or-drop, length-drop, length-take, length-take-le, take_min, take-append-drop}
 use Rattle.std.specs.List.{flat_map, zip}
 use Rattle.blink_lists.specs.Lists.{numbers_from}
 use Rattle.blink_lists.specs.declared.limits.TheConstants.{PAGE_ROWS}
@@ -57,9 +58,6 @@ all_rows_true (row ∷ page) = ap (λ l. true ∷ l) (all_rows_true page)
 pub first_bits : (page : Rows) → first_true (length page) ≡ bits_where (λ row. true) page
 first_bits page = ap (λ l. l ++ replicate (PAGE_ROWS - length page) false) (sym (all_rows_true page))
 
-pub same_where : (p q : List ℕ → Bool) → ((row : List ℕ) → p row ≡ q row) → (page : Rows) → bits_where p page ≡ bits_where q page
-same_where p q same page = λ i. bits_where (λ row. same row i) page
-
 none_front : (p q : List ℕ → Bool) → ((row : List ℕ) → p row ≡ false → q row ≡ false) → (page : Rows) (more : ℕ) → ((k : ℕ) → get_or (map p page ++ replicate more false) k false ≡ false)
     → map p page ++ replicate more false ≡ map q page ++ replicate more false
 none_front p q fails [] more none = refl
@@ -67,6 +65,10 @@ none_front p q fails (row ∷ page) more none =
     let here : p row ≡ q row = none 0 ∙ sym (fails row (none 0)) in
     let rest = none_front p q fails page more (λ k. none (suc k)) in
     λ i. here i ∷ rest i
+
+pub nothing : {P : Type 0} (o : Option ℕ) → is_some o ≡ false → IfNone o P → P
+nothing None e h = h
+nothing (Some k) e h = absurd (true≢false e)
 
 -- where no row passes some tests, none passes more
 pub none_passes : (p q : List ℕ → Bool) → ((row : List ℕ) → p row ≡ false → q row ≡ false) → (page : Rows) → ((k : ℕ) → get_or (bits_where p page) k false ≡ false) → bits_where p page ≡ bits_where q page
@@ -91,7 +93,26 @@ row_put p rows k value lt in_page is =
     ∙ ap (λ n. map p (take (suc k) rows) ++ replicate n false) (sym left)
     ∙ ap (λ n. bits_where p (take n rows)) next
 
+-- a test of a column's codes, put row by row of the rows from one on
+pub code_put : (test : ℕ → Bool) (all : Rows) (first row column code : ℕ) (bits : List Bool) → bits ≡ bits_where (λ r. test (get_or r column 0)) (take row (drop first all))
+    → code ≡ get_or (get_or all (first + row) []) column 0 → first + row < length all → row < PAGE_ROWS
+    → set bits row (test code) ≡ bits_where (λ r. test (get_or r column 0)) (take (row + 1) (drop first all))
+code_put test all first row column code bits before is within in_page =
+    let there : row < length (drop first all) = omega (arith, within, length-drop first all) in
+    ap (λ bs. set bs row (test code)) before
+    ∙ row_put (λ r. test (get_or r column 0)) (drop first all) row (test code) there in_page (ap test is ∙ ap (λ r. test (get_or r column 0)) (sym (get_or-drop first all row [])))
+
 -- ---- the pages of a cell
+
+-- so many rows of a page as there are
+pub page_of : (all : Rows) (page rows : ℕ) → rows ≡ min (length all - page * PAGE_ROWS) PAGE_ROWS → take rows (drop (page * PAGE_ROWS) all) ≡ rows_of_page all page
+page_of all page rows is =
+    let few : rows ≡ min PAGE_ROWS (length (drop (page * PAGE_ROWS) all)) = is ∙ min_comm (length all - page * PAGE_ROWS) PAGE_ROWS ∙ ap (min PAGE_ROWS) (sym (length-drop (page * PAGE_ROWS) all)) in
+    ap (λ n. take n (drop (page * PAGE_ROWS) all)) few ∙ take_min PAGE_ROWS (drop (page * PAGE_ROWS) all)
+
+pub page_rows : (all : Rows) (page rows : ℕ) → rows ≡ min (length all - page * PAGE_ROWS) PAGE_ROWS → rows ≡ length (rows_of_page all page)
+page_rows all page rows is =
+    is ∙ min_comm (length all - page * PAGE_ROWS) PAGE_ROWS ∙ ap (min PAGE_ROWS) (sym (length-drop (page * PAGE_ROWS) all)) ∙ sym (length-take PAGE_ROWS (drop (page * PAGE_ROWS) all))
 
 -- the pages from one on are the rows from there on
 rest_pages : (rows : Rows) (pages from : ℕ) → length rows ≤ (from + pages) * PAGE_ROWS → flat_map (rows_of_page rows) (numbers_from from pages) ≡ drop (from * PAGE_ROWS) rows

@@ -3,5 +3,8 @@
 
 mod code_test;
 pub mod laws;
+mod scan;
+mod test_bits;
 
 pub use code_test::CodeTest;
+pub use scan::scan_conjunction;
