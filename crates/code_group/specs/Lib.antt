@@ -1,0 +1,10 @@
+pub mod CellRow
+pub mod Entries
+pub mod Formulas
+pub mod GroupLaws
+pub mod GroupRows
+pub mod Plans
+pub mod RowParts
+pub mod Slots
+pub mod TupleHash
+pub mod Tuples

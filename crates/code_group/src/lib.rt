@@ -1,0 +1,11 @@
+//! Groups by code.
+#![tactic(auto)]
+
+mod cell_row;
+mod formula;
+mod limits;
+mod slots;
+mod tuple;
+mod tuple_groups;
+
+pub use limits::MOST_SLOTS;

@@ -1,0 +1,101 @@
+// Groups by tuple.
+ghost use Rattle.std.specs.Prelude.{◌≡◌, ◌<◌, ◌++◌, [], ◌∷◌, true, Some, None, IfOk, OnOk, length, position};
+ghost use Rattle.std.specs.Map.{keys_of};
+ghost use Rattle.code_group.specs.Slots.{is_within};
+ghost use Rattle.code_group.specs.Tuples.{same_tuple};
+ghost use Rattle.late_decode.specs.Parts.{no_parts};
+
+use crate::slots::{Slots, empty_slots};
+use crate::tuple::Tuple;
+use blink_base::List;
+use indexmap::IndexMap;
+use late_decode::{Measure, Part, no_parts};
+use std::alloc::{AllocError, Global};
+use std::marker::Model;
+
+// Groups by tuple, seen as the list of tuples with their parts, in the order in which they first came, and beside it how many
+// entries there are at each place of the tuples that come. Where these make few tuples, a slot tells the place of each; else
+// the hash table does.
+#[derive(Drop)]
+pub(crate) struct TupleGroups {
+    groups: IndexMap<Tuple, List<Part>>,
+    slots: Slots,
+}
+
+impl Model for TupleGroups {
+    ghost use Rattle.std.specs.Prelude.{List, ℕ};
+    ghost use Rattle.std.specs.Map.{keys_of};
+    ghost use Rattle.late_decode.specs.Groups.{Grouped};
+    ghost use Rattle.code_group.specs.Slots.{AreSlots};
+
+    ghost Value = { Grouped (List ℕ) × List ℕ };
+
+    ghost view = { λ g. (g.groups.entries, g.slots.sizes.items) };
+
+    ghost invariant = { λ g. AreSlots g.slots.sizes.items g.slots.slots.items (keys_of g.groups.entries) };
+}
+
+impl TupleGroups {
+    // No groups.
+    pub(crate) fn new(alloc: Global) -> TupleGroups
+        ensures { result.0 ≡ [] }
+    {
+        TupleGroups {
+            groups: IndexMap::new(alloc),
+            slots: Slots {
+                sizes: Vec::new(alloc),
+                slots: Vec::new(alloc),
+            },
+        }
+    }
+
+    // Makes ready for tuples within these sizes. Slots are made once, before the first group; where groups of other sizes are
+    // there, the hash table finds them.
+    pub(crate) fn prepare(&mut self, alloc: Global, sizes: Vec<u64>) -> Result<(), AllocError>
+        ensures groups { self.new.0 ≡ self.old.0 }
+        ensures sizes { OnOk result (self.new.1 ≡ sizes.items) }
+    {
+        if self.slots.serve(sizes.as_slice()) {
+            return Ok(());
+        }
+        let slots = if self.groups.is_empty() {
+            empty_slots(alloc, sizes.as_slice())?
+        } else {
+            Vec::new(alloc)
+        };
+        self.slots = Slots { sizes, slots };
+        Ok(())
+    }
+
+    // Where the group of a tuple stands.
+    fn find(&self, tuple: &Tuple) -> Option<usize>
+        requires { is_within self.now.1 tuple.now ≡ true }
+        ensures { result ≡ position (same_tuple tuple.now) (keys_of self.now.0) }
+    {
+        match self.slots.told(tuple) {
+            Some(0) => None,
+            Some(slot) => Some(slot as usize - 1),
+            None => self.groups.get_index_of(tuple),
+        }
+    }
+
+    // Puts the group of a new tuple behind the others, without rows, and tells where it stands.
+    fn push(
+        &mut self,
+        alloc: Global,
+        measures: &[Measure],
+        tuple: &Tuple,
+    ) -> Result<usize, AllocError>
+        requires within { is_within self.old.1 tuple.now ≡ true }
+        requires absent { position (same_tuple tuple.now) (keys_of self.old.0) ≡ None }
+        ensures place { IfOk result (λ at. at ≡ length self.old.0) }
+        ensures groups { OnOk result (self.new.0 ≡ self.old.0 ++ (tuple.now, no_parts measures.now) ∷ []) }
+        ensures sizes { self.new.1 ≡ self.old.1 }
+    {
+        let at = self.groups.len();
+        let parts = no_parts(alloc, measures)?;
+        self.groups.insert(tuple.copy(alloc)?, parts)?;
+        self.slots.note(tuple, at);
+        Ok(at)
+    }
+}
