@@ -1,3 +1,6 @@
+pub mod CellRowLemmas
+pub mod EntryLemmas
 pub mod GroupLemmas
+pub mod RowPartLemmas
 pub mod SlotLemmas
 pub mod TupleLemmas

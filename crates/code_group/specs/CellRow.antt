@@ -49,7 +49,7 @@ pub record HaveClasses (columns : List Classes) (classes : List ℕ) : Type 0 wh
 pub record IsTied (row : TiedRow) (maps : List (List (Option ℕ))) : Type 0 where
   pub classes : HaveClasses row.columns row.classes
   pub codes : are_codes row.columns row.classes row.codes ≡ true
-  pub maps : maps ≡ maps_in row.columns row.classes row.ties row.keys
+  pub mapped : maps ≡ maps_in row.columns row.classes row.ties row.keys
   pub many : length row.keys ≡ length row.ties
   pub within : list_all (λ k. nat_lt k (length row.columns)) row.ties ≡ true
   pub joined : has_keys row.ties row.keys (decoded_row row.columns row.classes row.codes) ≡ true

@@ -6,5 +6,6 @@ pub mod GroupRows
 pub mod Plans
 pub mod RowParts
 pub mod Slots
+pub mod TupleGroups
 pub mod TupleHash
 pub mod Tuples

@@ -1,5 +1,5 @@
 -- Parts while those of a row are merged into them, measure by measure. Source: this project's own.
-use Rattle.std.specs.Prelude.{◌<◌, ℕ, zero, suc, List, [], ◌∷◌, slice_index_or}
+use Rattle.std.specs.Prelude.{◌<◌, ℕ, zero, suc, pos, None, List, [], ◌∷◌, slice_index_or}
 use Rattle.blink_lists.specs.declared.limits.TheConstants.{MOST_ROWS}
 use Rattle.late_decode.specs.declared.plan.Measure.{Measure}
 use Rattle.late_decode.specs.declared.plan.Part.{Part}
@@ -16,3 +16,7 @@ merged_until (suc n) (measure ∷ measures) (x ∷ xs) (y ∷ ys) = merged_part 
 -- each part has room for a row more
 abbrev pub HaveRoom : List Part → Type 0
 HaveRoom parts = (k : ℕ) → (slice_index_or parts k no_part).count < MOST_ROWS
+
+-- the part of so many rows, where rows are counted
+abbrev pub rows_counted : ℕ → List Part
+rows_counted rows = record { count = rows; sum = pos 0; bound = None } ∷ []

@@ -11,6 +11,7 @@ ghost use Rattle.std.specs.List.{list_all};
 use crate::tuple::Tuple;
 use blink_base::Value;
 use cell_layout::Image;
+use code_join::laws::{entries_by_place, places_by_code};
 use code_join::{KeyMap, PayloadMap};
 use late_decode::Pick;
 use order_codes::Dict;
@@ -48,6 +49,8 @@ impl<'a, M: Ledger> CellRow<'a, M> {
         ensures entry { result ≡ entry_in self.now.ties (maps_in self.now.columns self.now.classes self.now.ties self.now.keys) self.now.codes pick }
         ensures within { result < size_in self.now.columns self.now.classes self.now.keys pick }
     {
+        entries_by_place();
+        places_by_code();
         match pick {
             Pick::Fact(column) => self.image.code(self.cell, self.row, column as usize),
             Pick::Dimension { tie, .. } => self.place(tie as usize),
@@ -72,6 +75,9 @@ impl<'a, M: Ledger> CellRow<'a, M> {
         ensures tuple { OnOk result (tuple.new ≡ tuple_by self.now picks.now) }
         ensures within { OnOk result (is_within (sizes_in self.now.columns self.now.classes self.now.keys picks.now) tuple.new ≡ true) }
     {
+        let _ = &self.image;
+        entries_by_place();
+        places_by_code();
         tuple.clear();
         for pick in picks {
             tuple.push(self.entry(*pick))?;
@@ -85,6 +91,8 @@ impl<'a, M: Ledger> CellRow<'a, M> {
         ensures value { result.now ≡ picked_by self.now pick }
         ensures decodes { decodes.new ≤ decodes.old + fact_picks (pick ∷ []) }
     {
+        entries_by_place();
+        places_by_code();
         let dicts = self.image.dictionaries();
         let classes = self.image.cell_classes(self.cell);
         entry_value(dicts, classes, self.keys, pick, self.entry(pick), decodes)

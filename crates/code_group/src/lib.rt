@@ -4,6 +4,7 @@
 mod cell_row;
 mod formula;
 mod limits;
+mod row_parts;
 mod slots;
 mod tuple;
 mod tuple_groups;
