@@ -1,8 +1,8 @@
 -- Parts while those of a row are merged into them.
-use Rattle.std.proofs.Common.{◌≡◌, ◌<◌, ◌≤◌, ◌+◌, ◌==◌, ℕ, zero, suc, Bool, true, List, [], ◌∷◌, ◌++◌, map, length, take, count_by, get_or, slice_get, slice_set, slice_index_or, Some, refl, sym, ap, subst, ◌∙◌, arith}
+use Rattle.std.proofs.Common.{◌≡◌, ◌<◌, ◌≤◌, ◌+◌, ◌==◌, ℕ, zero, suc, Bool, true, List, [], ◌∷◌, ◌++◌, map, length, take, cond, get_or, slice_get, slice_set, slice_index_or, Some, refl, sym, ap, subst, ◌∙◌, arith}
 use Rattle.std.specs.List.{list_all, flat_map}
 use Rattle.std.proofs.lemmas.Bool.{eqb-true}
-use Rattle.std.proofs.lemmas.List.Sums.{count_by-cons}
+use Rattle.std.proofs.lemmas.List.Sums.{sum_by-cons}
 use Rattle.blink_lists.specs.declared.limits.TheConstants.{MOST_ROWS}
 use Rattle.blink_lists.proofs.GroupLemmas.{both}
 use Rattle.blink_lists.proofs.SliceLemmas.{got}
@@ -108,8 +108,8 @@ picks-append : (xs ys : List Pick) → fact_picks (xs ++ ys) ≡ fact_picks xs +
 picks-append [] ys = omega arith
 picks-append (x ∷ xs) ys =
     let rest = picks-append xs ys in
-    let one = count_by-cons is_of_fact x (xs ++ ys) in
-    let all = count_by-cons is_of_fact x xs in
+    let one = sum_by-cons (λ p. cond (is_of_fact p) 1 0) x (xs ++ ys) in
+    let all = sum_by-cons (λ p. cond (is_of_fact p) 1 0) x xs in
     omega (arith, rest, one, all)
 
 picks-take : (n : ℕ) (ms : List Measure) (m : Measure) → slice_get ms n ≡ Some m

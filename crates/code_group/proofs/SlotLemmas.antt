@@ -130,10 +130,10 @@ no-slots sizes tuples = record {
 -- ---- one tuple more behind the others
 
 module _ {X : Type 0} (p : X → Bool) where
-  found-first : (x : X) (xs : List X) → p x ≡ true → position p (x ∷ xs) ≡ Some 0
+  pub found-first : (x : X) (xs : List X) → p x ≡ true → position p (x ∷ xs) ≡ Some 0
   found-first x xs e = rw e (let lt : 0 < suc (length xs) = omega arith in rw lt-ltb refl)
 
-  found-next : (x : X) (xs : List X) → p x ≡ false → position p (x ∷ xs) ≡ option_map suc (position p xs)
+  pub found-next : (x : X) (xs : List X) → p x ≡ false → position p (x ∷ xs) ≡ option_map suc (position p xs)
   found-next x xs e = rw e (by (nat_lt (1 + position_or_len p xs) (suc (length xs))) (nat_lt (position_or_len p xs) (length xs)) refl refl)
     where
       by : (b c : Bool) → nat_lt (1 + position_or_len p xs) (suc (length xs)) ≡ b → nat_lt (position_or_len p xs) (length xs) ≡ c

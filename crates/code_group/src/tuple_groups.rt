@@ -20,6 +20,7 @@ use crate::slots::{Slots, empty_slots};
 use crate::tuple::Tuple;
 use blink_base::List;
 use indexmap::IndexMap;
+use late_decode::laws::coded_parts_within;
 use late_decode::{Measure, Part, no_parts};
 use std::alloc::{AllocError, Global};
 use std::marker::Model;
@@ -147,6 +148,7 @@ impl TupleGroups {
         ensures sizes { self.new.1 ≡ self.old.1 }
         ensures decodes { decodes.new ≤ decodes.old + fact_picks (flat_map measure_picks measures.now) }
     {
+        coded_parts_within();
         let at = self.place(alloc, measures, tuple)?;
         match self.groups.get_index_mut(at) {
             Some(own) => merge_row(alloc, row, measures, own, decodes),
@@ -169,6 +171,7 @@ impl TupleGroups {
         ensures groups { OnOk result (self.new.0 ≡ added same_tuple measures.now tuple.now (rows_counted rows) self.old.0) }
         ensures sizes { self.new.1 ≡ self.old.1 }
     {
+        coded_parts_within();
         let at = self.place(alloc, measures, tuple)?;
         match self.groups.get_index_mut(at) {
             Some(own) => count_rows(own, rows),

@@ -12,6 +12,7 @@ use Rattle.blink_lists.proofs.GroupLemmas.{both}
 use Rattle.late_decode.specs.declared.plan.Measure.{Measure}
 use Rattle.late_decode.specs.declared.plan.Part.{Part}
 use Rattle.late_decode.specs.Bounds.{are_parts, are_groups, counted_at, combinations_in}
+use Rattle.late_decode.specs.BoundLaws.{CodedPartsWithin}
 use Rattle.late_decode.specs.Groups.{Grouped, added}
 use Rattle.late_decode.specs.Parts.{no_part, merged_parts, no_parts}
 use Rattle.late_decode.specs.PartSteps.{AreFew}
@@ -143,3 +144,17 @@ new_few measures es key parts good few k = by (nat_lt k (length measures)) refl
         let many = (parts_of measures parts good).0 in
         let no_more = none_beyond parts k (omega (arith, many, ltb-false k (length measures) t)) in
         omega (arith, none, no_more)
+
+pub coded_parts_within : CodedPartsWithin
+coded_parts_within measures groups at own good here = (group_parts measures groups at own good here, λ k. by k (nat_lt k (length measures)) refl)
+  where
+    by : (k : ℕ) (b : Bool) → nat_lt k (length measures) ≡ b → (slice_index_or own k no_part).count ≤ combinations_in measures groups
+    by k true t =
+        let some = count_within groups at k own here in
+        let all = fold_numbers (counted_at groups) 0 0 (length measures) k (ltb-true k (length measures) t) in
+        let same : counted_at groups (0 + k) ≡ counted_at groups k = ap (counted_at groups) (omega arith) in
+        omega (arith, some, all, same)
+    by k false t =
+        let long = (parts_of measures own (group_parts measures groups at own good here)).0 in
+        let none = none_beyond own k (omega (arith, long, ltb-false k (length measures) t)) in
+        omega (arith, none)

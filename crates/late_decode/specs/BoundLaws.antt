@@ -1,6 +1,7 @@
 -- Laws of groups that stay within their bounds. Source: this project's own.
-use Rattle.std.specs.Prelude.{◌≡◌, ◌≤◌, ◌+◌, ◌^◌, ℕ, Bool, true, List, [], ◌∷◌, map, nat_abs, slice_index_or}
+use Rattle.std.specs.Prelude.{◌≡◌, ◌≤◌, ◌+◌, ◌^◌, ℕ, Bool, true, List, [], ◌∷◌, map, nat_abs, Some, slice_get, slice_index_or}
 use Rattle.std.specs.List.{list_all}
+use Rattle.std.specs.Map.{values_of}
 use Rattle.blink_lists.specs.Lists.{are_distinct}
 use Rattle.blink_base.specs.Values.{Row, same_row, number_in}
 use Rattle.late_decode.specs.declared.plan.Measure.{Measure}
@@ -58,6 +59,12 @@ abbrev pub CountsAdded : Type 0
 CountsAdded =
     (measures : List Measure) (key : Row) (parts : List Part) (groups : Grouped Row) (k : ℕ)
     → counted_at (added same_row measures key parts groups) k ≤ counted_at groups k + (slice_index_or parts k no_part).count
+
+-- The law that the parts of a group by codes are as those of all groups, and count no more than they do.
+abbrev pub CodedPartsWithin : Type 0
+CodedPartsWithin =
+    (measures : List Measure) (groups : Grouped (List ℕ)) (at : ℕ) (own : List Part) → are_groups measures groups ≡ true → slice_get (values_of groups) at ≡ Some own
+    → (are_parts measures own ≡ true) × ((k : ℕ) → (slice_index_or own k no_part).count ≤ combinations_in measures groups)
 
 -- The law that the parts of one row are bounded, where its numbers have at most fifteen digits.
 abbrev pub RowsAreParts : Type 0
