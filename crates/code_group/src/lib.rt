@@ -3,6 +3,7 @@
 
 mod cell_row;
 mod formula;
+pub mod laws;
 mod limits;
 mod row_parts;
 mod slots;

@@ -12,7 +12,7 @@ use Rattle.blink_lists.proofs.GroupLemmas.{both}
 use Rattle.late_decode.specs.declared.plan.Measure.{Measure}
 use Rattle.late_decode.specs.declared.plan.Part.{Part}
 use Rattle.late_decode.specs.Bounds.{are_parts, are_groups, counted_at, combinations_in}
-use Rattle.late_decode.specs.BoundLaws.{CodedPartsWithin}
+use Rattle.late_decode.specs.BoundLaws.{CodedPartsWithin, CountsBounded}
 use Rattle.late_decode.specs.Groups.{Grouped, added}
 use Rattle.late_decode.specs.Parts.{no_part, merged_parts, no_parts}
 use Rattle.late_decode.specs.PartSteps.{AreFew}
@@ -158,3 +158,17 @@ coded_parts_within measures groups at own good here = (group_parts measures grou
         let long = (parts_of measures own (group_parts measures groups at own good here)).0 in
         let none = none_beyond own k (omega (arith, long, ltb-false k (length measures) t)) in
         omega (arith, none)
+
+-- no greatest number exceeds what none of them exceeds
+fold_most : (f : ℕ → ℕ) (most acc from count : ℕ) → acc ≤ most → ((k : ℕ) → k < count → f (from + k) ≤ most) → fold max acc (map f (numbers_from from count)) ≤ most
+fold_most f most acc from zero le each = le
+fold_most f most acc from (suc count) le each =
+    let here = each 0 (omega arith) in
+    let same : f (from + 0) ≡ f from = ap f (omega arith) in
+    fold_most f most (max acc (f from)) (from + 1) count (omega (arith, le, here, same))
+    (λ k lt. let there = each (suc k) (omega (arith, lt)) in let moved : f (from + suc k) ≡ f (from + 1 + k) = ap f (omega arith) in omega (arith, there, moved))
+
+pub counts_bounded : CountsBounded
+counts_bounded counted measures =
+    (λ k lt. let all = fold_numbers counted 0 0 measures k lt in let same : counted (0 + k) ≡ counted k = ap counted (omega arith) in omega (arith, all, same),
+    λ most each. fold_most counted most 0 0 measures (omega arith) (λ k lt. let here = each k lt in let same : counted (0 + k) ≡ counted k = ap counted (omega arith) in omega (arith, here, same)))

@@ -1,8 +1,8 @@
 -- Laws of groups that stay within their bounds. Source: this project's own.
-use Rattle.std.specs.Prelude.{◌≡◌, ◌≤◌, ◌+◌, ◌^◌, ℕ, Bool, true, List, [], ◌∷◌, map, nat_abs, Some, slice_get, slice_index_or}
+use Rattle.std.specs.Prelude.{◌≡◌, ◌<◌, ◌≤◌, ◌+◌, ◌^◌, max, fold, ℕ, Bool, true, List, [], ◌∷◌, map, nat_abs, Some, slice_get, slice_index_or}
 use Rattle.std.specs.List.{list_all}
 use Rattle.std.specs.Map.{values_of}
-use Rattle.blink_lists.specs.Lists.{are_distinct}
+use Rattle.blink_lists.specs.Lists.{are_distinct, numbers_from}
 use Rattle.blink_base.specs.Values.{Row, same_row, number_in}
 use Rattle.late_decode.specs.declared.plan.Measure.{Measure}
 use Rattle.late_decode.specs.declared.plan.Part.{Part}
@@ -65,6 +65,13 @@ abbrev pub CodedPartsWithin : Type 0
 CodedPartsWithin =
     (measures : List Measure) (groups : Grouped (List ℕ)) (at : ℕ) (own : List Part) → are_groups measures groups ≡ true → slice_get (values_of groups) at ≡ Some own
     → (are_parts measures own ≡ true) × ((k : ℕ) → (slice_index_or own k no_part).count ≤ combinations_in measures groups)
+
+-- The law that the greatest of some counts is no less than each, and no more than what none exceeds.
+abbrev pub CountsBounded : Type 0
+CountsBounded =
+    (counted : ℕ → ℕ) (measures : ℕ)
+    → ((k : ℕ) → k < measures → counted k ≤ fold max 0 (map counted (numbers_from 0 measures)))
+    × ((most : ℕ) → ((k : ℕ) → k < measures → counted k ≤ most) → fold max 0 (map counted (numbers_from 0 measures)) ≤ most)
 
 -- The law that the parts of one row are bounded, where its numbers have at most fifteen digits.
 abbrev pub RowsAreParts : Type 0

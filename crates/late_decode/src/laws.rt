@@ -3,7 +3,7 @@
 ghost use Rattle.late_decode.specs.Laws.{PartsMerge, RowsGroup, CodedRowsGroup, SpilledGroup};
 ghost use Rattle.late_decode.specs.Combinations.{CombinationsCounted};
 ghost use Rattle.late_decode.specs.Sums.{SumsBounded, FormulasBounded};
-ghost use Rattle.late_decode.specs.BoundLaws.{AddedAreGroups, AddedAreCoded, AddedAreDistinct, SlotsStayWithin, CombinationsAdded, CodedCombinationsAdded, CombinationsTogether, CountsAdded, CodedPartsWithin, RowsAreParts};
+ghost use Rattle.late_decode.specs.BoundLaws.{AddedAreGroups, AddedAreCoded, AddedAreDistinct, SlotsStayWithin, CombinationsAdded, CodedCombinationsAdded, CombinationsTogether, CountsAdded, CodedPartsWithin, CountsBounded, RowsAreParts};
 
 /// The part of some rows and of further rows is that of both, merged. Source: this project's own.
 pub fn parts_merge()
@@ -89,4 +89,9 @@ pub fn counts_added()
 /// The parts of a group by codes are as those of all groups, and count no more than they do. Source: this project's own.
 pub fn coded_parts_within()
     ensures { CodedPartsWithin }
+{}
+
+/// The greatest of some counts is no less than each, and no more than what none exceeds. Source: this project's own.
+pub fn counts_bounded()
+    ensures { CountsBounded }
 {}
