@@ -1,7 +1,10 @@
+pub mod BoundLemmas
+pub mod CellLemmas
 pub mod CellRowLemmas
 pub mod EntryLemmas
 pub mod GroupLemmas
 pub mod ImageGroupLemmas
 pub mod RowPartLemmas
+pub mod SelectedRowLemmas
 pub mod SlotLemmas
 pub mod TupleLemmas

@@ -3,6 +3,7 @@ pub mod Entries
 pub mod Formulas
 pub mod GroupLaws
 pub mod GroupRows
+pub mod PageGroups
 pub mod Plans
 pub mod RowParts
 pub mod Slots
