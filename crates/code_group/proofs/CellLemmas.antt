@@ -2,14 +2,12 @@
 use Rattle.std.proofs.Common.{◌≡◌, ◌<◌, ◌≤◌, ◌==◌, ◌&&◌, ℕ, zero, suc, Bool, true, List, [], ◌∷◌, map, length, nat_lt, nat_le, get_or, slice_index_or, arith}
 use Rattle.std.specs.List.{list_all, zip}
 use Rattle.std.proofs.lemmas.Bool.{eqb-true, ltb-true, leb-true}
-use Rattle.blink_base.specs.RowFits.{is_schema}
 use Rattle.blink_lists.specs.Lists.{rises}
 use Rattle.blink_lists.proofs.AllLemmas.{all_at}
 use Rattle.blink_lists.proofs.GroupLemmas.{both}
 use Rattle.cell_layout.specs.Image.{TableImage, CellImage, cell_at, rows_of}
 use Rattle.cell_layout.specs.Layout.{cell_cmp}
 use Rattle.cell_layout.specs.Valid.{is_cell, are_codes, is_row_count, is_rest_row, is_valid, are_keyed, most_cell_rows}
-use Rattle.column_classes.specs.ColumnClasses.{are_divided}
 use Rattle.order_codes.specs.Dictionary.{Classes}
 use Rattle.code_group.specs.CellRow.{HaveClasses}
 

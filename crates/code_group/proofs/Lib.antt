@@ -1,9 +1,11 @@
 pub mod BoundLemmas
 pub mod CellLemmas
 pub mod CellRowLemmas
+pub mod CountLemmas
 pub mod EntryLemmas
 pub mod GroupLemmas
 pub mod ImageGroupLemmas
+pub mod PageLemmas
 pub mod RowPartLemmas
 pub mod SelectedRowLemmas
 pub mod SlotLemmas
