@@ -29,6 +29,9 @@ use Rattle.code_group.proofs.CountLemmas.{counted}
 use Rattle.code_group.proofs.RowPartLemmas.{length-map}
 use Rattle.code_group.proofs.SelectedRowLemmas.{selected-next, selected-none, selected-within, selected-many, page-row}
 
+pub one-more : (n v : ℕ) → (n + 1) * v ≡ n * v + v
+one-more n v = grind arith
+
 module _ (p : SelectedPage) (maps : List (List (Option ℕ))) (may : MayGroup p maps) where
   pub facts : CellFacts p.image.columns (cell_at p.image p.cell)
   facts = cell-facts p.image.columns (cell_at p.image p.cell) (valid-cell p.image p.cell may.valid may.cell)
