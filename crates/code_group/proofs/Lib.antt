@@ -6,7 +6,9 @@ pub mod EntryLemmas
 pub mod GroupLemmas
 pub mod ImageGroupLemmas
 pub mod PageLemmas
+pub mod RestLemmas
 pub mod RowPartLemmas
 pub mod SelectedRowLemmas
 pub mod SlotLemmas
+pub mod SpillLemmas
 pub mod TupleLemmas

@@ -104,7 +104,7 @@ module _ (ms : List Measure) (xs : List Part) (at : Picked) (good : are_parts ms
 
 -- ---- picks of the fact
 
-picks-append : (xs ys : List Pick) → fact_picks (xs ++ ys) ≡ fact_picks xs + fact_picks ys
+pub picks-append : (xs ys : List Pick) → fact_picks (xs ++ ys) ≡ fact_picks xs + fact_picks ys
 picks-append [] ys = omega arith
 picks-append (x ∷ xs) ys =
     let rest = picks-append xs ys in

@@ -12,11 +12,15 @@ pub mod laws;
 mod limits;
 mod page_groups;
 mod page_rows;
+mod rest_groups;
+mod rest_row;
 mod row_parts;
 mod slots;
+mod spill;
 mod tuple;
 mod tuple_groups;
 
 pub use cell_groups::CellGroups;
-pub use page_groups::group_page;
 pub use limits::MOST_SLOTS;
+pub use page_groups::group_page;
+pub use rest_groups::group_rest;

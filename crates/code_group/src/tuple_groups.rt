@@ -1,5 +1,5 @@
 // Groups by tuple.
-ghost use Rattle.std.specs.Prelude.{◌≡◌, ◌<◌, ◌≤◌, ◌+◌, ◌++◌, [], ◌∷◌, true, Some, None, IsTrue, IfOk, OnOk, length, position};
+ghost use Rattle.std.specs.Prelude.{◌≡◌, ◌<◌, ◌≤◌, ◌+◌, ◌++◌, [], ◌∷◌, true, Some, None, IsTrue, IfOk, OnOk, length, position, reverse};
 ghost use Rattle.std.specs.List.{list_all, flat_map};
 ghost use Rattle.std.specs.Map.{keys_of};
 ghost use Rattle.blink_lists.specs.declared.limits.TheConstants.{MOST_ROWS};
@@ -178,5 +178,14 @@ impl TupleGroups {
             None => unreachable!(),
         }
         Ok(())
+    }
+
+    // The groups, the last one first.
+    pub(crate) fn into_reversed(self) -> IndexMap<Tuple, List<Part>>
+        ensures { result.entries ≡ reverse self.0 }
+    {
+        let TupleGroups { mut groups, .. } = self;
+        groups.reverse();
+        groups
     }
 }
