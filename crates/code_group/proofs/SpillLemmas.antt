@@ -131,6 +131,14 @@ module _ (columns : List Classes) (classes : List ℕ) (keys : List Keyed) (plan
       let two = (bounded (counted_at old) (length ms)).0 k lt in
       omega (arith, before, one, two)))
 
+-- one more, behind the others
+pub length-last : {X : Type 0} (xs rest : List X) (x : X) → xs ≡ rest ++ x ∷ [] → length xs ≡ length rest + 1
+length-last {X} xs rest x e = ap (λ l. length l) e ∙ by rest
+  where
+    by : (ys : List X) → length (ys ++ x ∷ []) ≡ length ys + 1
+    by [] = refl
+    by (y ∷ ys) = let more = by ys in omega (arith, more)
+
 -- nothing is left where nothing is taken
 pub nothing-left : {X : Type 0} (o : Option X) (xs : List X) → o ≡ None → (0 < length xs → is_some o ≡ true) → xs ≡ []
 nothing-left o [] e h = refl
