@@ -1,8 +1,8 @@
 -- Groups by code stay within their bounds.
-use Rattle.std.proofs.Common.{◌≡◌, ◌≤◌, ◌<◌, ◌+◌, ◌*◌, ◌^◌, ◌==◌, ◌+ℤ◌, ◌-ℤ◌, ◌*ℤ◌, ℕ, ℤ, zero, suc, pos, max, fold, nat_lt, Bool, true, false, List, [], ◌∷◌, map, length, None, refl, sym, ap, subst, ◌∙◌, arith, true≢false}
+use Rattle.std.proofs.Common.{◌≡◌, ◌≤◌, ◌<◌, ◌+◌, ◌*◌, ◌^◌, ◌==◌, ◌+ℤ◌, ◌-ℤ◌, ◌*ℤ◌, ℕ, pos, max, fold, Bool, true, false, List, [], ◌∷◌, map, length, refl, sym, ap, ◌∙◌, arith, true≢false}
 use Rattle.std.specs.Prelude.{nat_abs, nat_le}
 use Rattle.std.specs.List.{list_all}
-use Rattle.std.proofs.lemmas.Bool.{ltb-true, eqb-true, eq-eqb, le-leb}
+use Rattle.std.proofs.lemmas.Bool.{ltb-true, eq-eqb}
 use Rattle.blink_base.specs.declared.value.Value.{Value}
 use Rattle.blink_base.specs.declared.value.Value.TheVariants.{Int, Text, Date}
 use Rattle.blink_base.specs.Lines.{sum_of}
@@ -19,7 +19,7 @@ use Rattle.late_decode.specs.BoundLaws.{AddedAreGroups, AddedAreCoded, RowsArePa
 use Rattle.late_decode.specs.Bounds.{is_bounded, are_parts, are_groups, combinations_of}
 use Rattle.late_decode.specs.Groups.{Grouped, added}
 use Rattle.late_decode.specs.Parts.{Picked, either_of, formula_number, measure_sum, part_over, parts_over}
-use Rattle.code_group.specs.Plans.{formula_picks, summed_picks, is_good_number, measure_sums, sums_numbers, are_of_plan}
+use Rattle.code_group.specs.Plans.{formula_picks, is_good_number, measure_sums, are_of_plan}
 use Rattle.code_group.proofs.RowPartLemmas.{length-map}
 
 -- ---- the parts of a row
@@ -62,7 +62,7 @@ bounds-same at (m ∷ ms) h k =
     let b = both (measure_sums at m) (list_all (measure_sums at) ms) h in
     let d = both (is_bounded (part_over m (good-at at ∷ []))) (list_all is_bounded (parts_over ms (good-at at ∷ []))) k in
     and_both (is_bounded (part_over m (at ∷ []))) (list_all is_bounded (parts_over ms (at ∷ [])))
-      (ap (λ s. nat_le (nat_abs s) (10 ^ 30 * 1)) (sym (sum-same at m b.0)) ∙ d.0) (bounds-same at ms b.1 d.1)
+    (ap (λ s. nat_le (nat_abs s) (10 ^ 30 * 1)) (sym (sum-same at m b.0)) ∙ d.0) (bounds-same at ms b.1 d.1)
 
 -- the parts of a row are bounded, where all that is summed of it is a good whole number
 pub row-parts : RowsAreParts → (ms : List Measure) (at : Picked) → list_all (measure_sums at) ms ≡ true → are_parts ms (parts_over ms (at ∷ [])) ≡ true
@@ -70,7 +70,7 @@ row-parts law ms at h =
     let all = law ms (good-at at) (λ p. at-most (at p) (is_good_number (at p)) refl) in
     let b = both (length (parts_over ms (good-at at ∷ [])) == length ms) (list_all is_bounded (parts_over ms (good-at at ∷ []))) all in
     and_both (length (parts_over ms (at ∷ [])) == length ms) (list_all is_bounded (parts_over ms (at ∷ [])))
-      (eq-eqb (length (parts_over ms (at ∷ []))) (length ms) (length-map (λ m. part_over m (at ∷ [])) ms)) (bounds-same at ms h b.1)
+    (eq-eqb (length (parts_over ms (at ∷ []))) (length ms) (length-map (λ m. part_over m (at ∷ [])) ms)) (bounds-same at ms h b.1)
 
 -- they are of one combination
 pub row-combination : (ms : List Measure) (at : Picked) → combinations_of (parts_over ms (at ∷ [])) ≤ 1
@@ -111,8 +111,8 @@ coded-of-plan law same plan key parts groups good long h =
     let b = both (are_groups plan.measures groups) (list_all (λ (group : List ℕ × List Part). length group.0 == length plan.keys) groups) h in
     let new = added same plan.measures key parts groups in
     and_both (are_groups plan.measures new) (list_all (λ (group : List ℕ × List Part). length group.0 == length plan.keys) new)
-      (law same plan.measures key parts groups good b.0)
-      (added-pass same plan.measures key parts (λ k. length k == length plan.keys) groups (eq-eqb (length key) (length plan.keys) long) b.1)
+    (law same plan.measures key parts groups good b.0)
+    (added-pass same plan.measures key parts (λ k. length k == length plan.keys) groups (eq-eqb (length key) (length plan.keys) long) b.1)
 
 -- and so do groups by values
 pub values-of-plan : AddedAreGroups → (plan : GroupPlan) (key : Row) (parts : List Part) (groups : Grouped Row) → are_parts plan.measures parts ≡ true
@@ -121,5 +121,5 @@ values-of-plan law plan key parts groups good long h =
     let b = both (are_groups plan.measures groups) (list_all (λ (group : Row × List Part). length group.0 == length plan.keys) groups) h in
     let new = added same_row plan.measures key parts groups in
     and_both (are_groups plan.measures new) (list_all (λ (group : Row × List Part). length group.0 == length plan.keys) new)
-      (law plan.measures key parts groups good b.0)
-      (added-pass same_row plan.measures key parts (λ k. length k == length plan.keys) groups (eq-eqb (length key) (length plan.keys) long) b.1)
+    (law plan.measures key parts groups good b.0)
+    (added-pass same_row plan.measures key parts (λ k. length k == length plan.keys) groups (eq-eqb (length key) (length plan.keys) long) b.1)

@@ -1,10 +1,8 @@
 -- What entries stand for in a row of a cell.
 use Rattle.std.proofs.Common.{◌≡◌, ℕ, ◌<◌, suc, true, List, [], ◌∷◌, map, length, Option, refl, ap, ◌∙◌}
 use Rattle.std.specs.List.{list_all, zip}
-use Rattle.code_join.specs.Keys.{Keyed}
 use Rattle.code_join.specs.KeyLaws.{EntriesByPlace, PlacesByCode}
 use Rattle.late_decode.specs.declared.plan.Pick.{Pick}
-use Rattle.order_codes.specs.Dictionary.{Classes}
 use Rattle.code_group.specs.CellRow.{TiedRow, IsTied, picked_by, pick_by, tuple_by}
 use Rattle.code_group.specs.Entries.{maps_in, entry_in, size_in, sizes_in, value_of_entry}
 use Rattle.code_group.specs.Slots.{is_within}

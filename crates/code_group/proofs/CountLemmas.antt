@@ -1,5 +1,5 @@
 -- Rows that are only counted are added to the one group at once.
-use Rattle.std.proofs.Common.{◌≡◌, ◌+◌, ◌+ℤ◌, ℕ, ℤ, suc, pos, Bool, true, false, List, [], ◌∷◌, length, None, refl, sym, ap, ◌∙◌, arith}
+use Rattle.std.proofs.Common.{◌≡◌, ◌+◌, ◌+ℤ◌, ℕ, suc, pos, Bool, true, false, List, [], ◌∷◌, length, None, refl, ap, ◌∙◌, arith}
 use Rattle.std.proofs.Math.IntN.{+ℤ_idr}
 use Rattle.late_decode.specs.declared.plan.Measure.TheVariants.{Count}
 use Rattle.late_decode.specs.declared.plan.Part.{Part}

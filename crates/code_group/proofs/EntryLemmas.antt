@@ -1,6 +1,6 @@
 -- An entry stands for the value that its pick has beside the row.
-use Rattle.std.proofs.Common.{◌≡◌, ℕ, zero, suc, pos, ◌<◌, ◌==◌, Bool, true, false, List, [], ◌∷◌, map, length, nat_lt, Option, Some, None, unwrap_or, slice_index_or, slice_get, get_or, refl, sym, ap, ◌∙◌, subst, arith, true≢false}
-use Rattle.std.specs.List.{list_all, zip, position}
+use Rattle.std.proofs.Common.{◌≡◌, ℕ, zero, suc, pos, ◌<◌, ◌==◌, Bool, true, List, [], ◌∷◌, map, length, nat_lt, Option, Some, None, unwrap_or, slice_index_or, slice_get, get_or, refl, sym, ap, ◌∙◌, subst, arith, true≢false}
+use Rattle.std.specs.List.{list_all, zip}
 use Rattle.std.specs.Option.{option_and_then, is_some}
 use Rattle.std.specs.Map.{keys_of, values_of}
 use Rattle.std.proofs.lemmas.Bool.{eqb-true, ltb-true, lt-ltb}

@@ -1,5 +1,5 @@
 -- Groups by tuple: one is put behind the others, and parts are added where its tuple stands.
-use Rattle.std.proofs.Common.{◌≡◌, ◌≤◌, ◌+◌, ◌==◌, ℕ, zero, suc, Bool, true, false, List, [], ◌∷◌, ◌++◌, length, Option, None, Some, Result, Ok, Err, slice_get, slice_index_or, refl, sym, ap, subst, ◌∙◌, arith}
+use Rattle.std.proofs.Common.{◌≡◌, ◌≤◌, ◌==◌, ℕ, zero, suc, Bool, true, false, List, [], ◌∷◌, ◌++◌, length, Option, None, Some, Result, Ok, Err, slice_get, slice_index_or, refl, sym, ap, subst, ◌∙◌, arith}
 use Rattle.std.specs.List.{list_all, position}
 use Rattle.std.specs.Option.{option_map}
 use Rattle.std.specs.Result.{IfOk, OnOk}
@@ -9,7 +9,6 @@ use Rattle.std.specs.Map.{keys_of, values_of}
 use Rattle.indexmap.specs.IndexMap.{insert_entry, set_value_at}
 use Rattle.indexmap.proofs.MapLemmas.{Missing-position, insert_entry-absent}
 use Rattle.late_decode.specs.declared.plan.Part.{Part}
-use Rattle.blink_lists.specs.declared.limits.TheConstants.{MOST_ROWS}
 use Rattle.late_decode.specs.declared.plan.Measure.{Measure}
 use Rattle.late_decode.specs.BoundLaws.{CodedPartsWithin}
 use Rattle.late_decode.specs.Bounds.{is_bounded, are_parts, are_groups, combinations_in}
@@ -133,7 +132,7 @@ own-good law ms tuple es placed at own so p h good = by (position (same_tuple tu
         let one : no_parts ms ≡ own = cc in
         let all = no-parts-good ms in
         subst (λ l. (are_parts ms l ≡ true) × ((k : ℕ) → (slice_index_or l k no_part).count ≤ combinations_in ms es)) one
-          (and_both (length (no_parts ms) == length ms) (list_all is_bounded (no_parts ms)) (eq-eqb (length (no_parts ms)) (length ms) all.0) all.1, λ k. let none = no-parts-none ms k in omega (arith, none))
+        (and_both (length (no_parts ms) == length ms) (list_all is_bounded (no_parts ms)) (eq-eqb (length (no_parts ms)) (length ms) all.0) all.1, λ k. let none = no-parts-none ms k in omega (arith, none))
 
 -- what follows of a result where it is Ok
 pub on-ok : {T E : Type 0} (r : Result T E) (P Q : Type 0) → (P → Q) → OnOk r P → OnOk r Q

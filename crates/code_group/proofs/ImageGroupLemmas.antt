@@ -1,5 +1,5 @@
 -- Groups of selected rows, cell by cell and then rest, are those of these rows in some order.
-use Rattle.std.proofs.Common.{◌≡◌, ◌==◌, ℕ, Bool, true, ◌&&◌, List, [], ◌∷◌, ◌++◌, map, length, nat_lt, sym, ap, ◌∙◌, append_assoc}
+use Rattle.std.proofs.Common.{◌≡◌, ◌==◌, ℕ, true, List, [], ◌∷◌, ◌++◌, map, length, nat_lt, sym, ap, ◌∙◌, append_assoc}
 use Rattle.std.specs.List.{list_all, flat_map}
 use Rattle.std.proofs.lemmas.Bool.{eqb-true}
 use Rattle.std.proofs.lemmas.List.{append-nil}
@@ -46,10 +46,10 @@ module _ (by_place : EntriesByPlace) (by_code : PlacesByCode) (coded_group : Cod
       let full : length cell.0.classes ≡ length image.columns = eqb-true (length cell.0.classes) (length image.columns) b.0 in
       ap (λ gs. spilled image cell.0 plan keys gs (groups_by_plan plan picked rows)) (coded_group same_tuple tells_tuples plan.measures (tuple_of image cell.0 plan keys) (picked_of image cell.0 plan keys) [] cell.1)
       ∙ spilled_group plan.measures (λ row. key_of plan.keys (picked row)) picked (tuple_of image cell.0 plan keys) (decoded_row image.columns cell.0.classes)
-        (key_of_entries image.columns cell.0.classes keys plan.keys) same_tuple tells_tuples (is_joined image plan keys cell.0)
-        (λ codes e.
-        let g = both (are_codes image.columns cell.0.classes codes) (has_keys plan.ties keys (decoded_row image.columns cell.0.classes codes)) e in
-        key-is by_place by_code image.columns cell.0.classes full codes g.0 plan.ties keys many within g.1 plan.keys) rows cell.1 b.1
+      (key_of_entries image.columns cell.0.classes keys plan.keys) same_tuple tells_tuples (is_joined image plan keys cell.0)
+      (λ codes e.
+      let g = both (are_codes image.columns cell.0.classes codes) (has_keys plan.ties keys (decoded_row image.columns cell.0.classes codes)) e in
+      key-is by_place by_code image.columns cell.0.classes full codes g.0 plan.ties keys many within g.1 plan.keys) rows cell.1 b.1
 
   cells-are : (cells : List (CellImage × List (List ℕ))) (rows : List Row) → list_all (are_joined image plan keys) cells ≡ true
       → cells_added image plan keys cells (groups_by_plan plan picked rows) ≡ groups_by_plan plan picked (rows ++ flat_map in_groups cells)
@@ -68,11 +68,12 @@ module _ (by_place : EntriesByPlace) (by_code : PlacesByCode) (coded_group : Cod
   groups-are : (cells : List (CellImage × List (List ℕ))) (rest : List Row) → list_all (are_joined image plan keys) cells ≡ true
       → (taken : List Row) × Rearranged (flat_map (selected_in image) cells ++ rest) taken × (image_groups image plan keys cells rest ≡ groups_by_plan plan picked taken)
   groups-are cells rest h =
-      let front = flat_map in_groups cells in
-      (front ++ rest,
-      behind rest (cells-rearranged cells),
-      ap (rest_added plan keys rest) (cells-are cells [] h)
-      ∙ rows_group plan.measures (λ row. key_of plan.keys (picked row)) picked front rest)
+      let front = flat_map in_groups cells in (
+        front ++ rest,
+        behind rest (cells-rearranged cells),
+        ap (rest_added plan keys rest) (cells-are cells [] h)
+            ∙ rows_group plan.measures (λ row. key_of plan.keys (picked row)) picked front rest,
+      )
 
 pub image-groups : EntriesByPlace → PlacesByCode → CodedRowsGroup → RowsGroup → SpilledGroup → ImageGroups
 image-groups by_place by_code coded rows spilled image plan keys cells rest many within h = groups-are by_place by_code coded rows spilled image plan keys many within cells rest h

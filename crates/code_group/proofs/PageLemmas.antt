@@ -1,25 +1,25 @@
 -- The selected rows of a page, added one after another to the groups of their cell.
-use Rattle.std.proofs.Common.{◌≡◌, ◌<◌, ◌≤◌, ◌+◌, ◌*◌, ◌==◌, ℕ, zero, suc, Bool, true, false, List, [], ◌∷◌, map, length, nat_le, pos, ◌^◌, None, Option, slice_index_or, refl, sym, ap, subst, ◌∙◌, arith}
+use Rattle.std.proofs.Common.{◌≡◌, ◌<◌, ◌≤◌, ◌+◌, ◌*◌, ◌==◌, ℕ, suc, true, false, List, [], ◌∷◌, map, length, pos, ◌^◌, None, Option, slice_index_or, refl, sym, ap, ◌∙◌, arith}
 use Rattle.std.specs.List.{list_all}
-use Rattle.std.proofs.lemmas.Bool.{le-leb, eq-eqb}
+use Rattle.std.proofs.lemmas.Bool.{le-leb}
 use Rattle.blink_lists.specs.declared.limits.TheConstants.{MOST_ROWS, PAGE_ROWS}
 use Rattle.blink_lists.proofs.AllLemmas.{all_at}
 use Rattle.blink_lists.proofs.GroupLemmas.{both, and_both}
-use Rattle.cell_layout.specs.Image.{cell_at, decoded_row}
-use Rattle.cell_layout.specs.Valid.{are_codes, most_cell_rows}
+use Rattle.cell_layout.specs.Image.{cell_at}
+use Rattle.cell_layout.specs.Valid.{are_codes}
 use Rattle.cell_scan.specs.Match.{rows_of_page}
 use Rattle.late_decode.specs.declared.plan.Measure.TheVariants.{Count}
 use Rattle.late_decode.specs.declared.plan.Part.{Part}
 use Rattle.late_decode.specs.declared.plan.Pick.{Pick}
 use Rattle.late_decode.specs.BoundLaws.{AddedAreCoded, CodedCombinationsAdded, RowsAreParts}
-use Rattle.late_decode.specs.Bounds.{is_bounded, are_parts, are_groups, combinations_in, combinations_of}
+use Rattle.late_decode.specs.Bounds.{is_bounded, are_parts, are_groups, combinations_in}
 use Rattle.late_decode.specs.Groups.{Grouped, added, rows_added}
 use Rattle.late_decode.specs.Parts.{parts_over}
-use Rattle.code_group.specs.CellRow.{TiedRow, IsTied, picked_by, pick_by, tuple_by}
+use Rattle.code_group.specs.CellRow.{IsTied, picked_by, tuple_by}
 use Rattle.code_group.specs.Entries.{entry_in, maps_in, size_in}
 use Rattle.code_group.specs.GroupRows.{picked_of, tuple_of}
 use Rattle.code_group.specs.PageGroups.{SelectedPage, MayGroup, AreReady, AreAdded, HaveAll, codes_at, row_at, selected_from, count_from, row_joined, row_sums, page_sizes, page_added, page_within}
-use Rattle.code_group.specs.Plans.{pick_there, measure_there, measure_picks, measure_sums, are_of_plan}
+use Rattle.code_group.specs.Plans.{pick_there, measure_there, measure_sums, are_of_plan}
 use Rattle.code_group.specs.RowParts.{rows_counted}
 use Rattle.code_group.specs.Slots.{is_within}
 use Rattle.code_group.specs.Tuples.{same_tuple}
@@ -113,7 +113,7 @@ module _ (p : SelectedPage) (maps : List (List (Option ℕ))) (may : MayGroup p 
         let parts : List Part = parts_over ms (picked_by (row_at p at) ∷ []) in
         let same = (at-row at here).0 in
         let as_codes : added same_tuple ms tuple parts groups ≡ added same_tuple ms (tuple_of p.image (cell_at p.image p.cell) p.plan p.keys (codes_at p at)) (parts_over ms (picked_of p.image (cell_at p.image p.cell) p.plan p.keys (codes_at p at) ∷ [])) groups =
-            ap (λ codes. added same_tuple ms (tuple_of p.image (cell_at p.image p.cell) p.plan p.keys codes) (parts_over ms (picked_of p.image (cell_at p.image p.cell) p.plan p.keys codes ∷ [])) groups) (sym same) in
+        ap (λ codes. added same_tuple ms (tuple_of p.image (cell_at p.image p.cell) p.plan p.keys codes) (parts_over ms (picked_of p.image (cell_at p.image p.cell) p.plan p.keys codes ∷ [])) groups) (sym same) in
         let good = row-parts bounded ms (picked_by (row_at p at)) next-numbers in
         let one = row-combination ms (picked_by (row_at p at)) in
         let few = combinations same_tuple ms tuple parts groups in
@@ -178,10 +178,10 @@ module _ (p : SelectedPage) (maps : List (List (Option ℕ))) (may : MayGroup p 
             let cell = cell_at p.image p.cell in
             let one : suc (length rows) ≡ n = omega (arith, many, ap (λ (l : List (List ℕ)). length l) e) in
             let all : page_added p (row ∷ rows) old ≡ added same_tuple (Count ∷ []) [] (rows_counted n) old =
-                ap (λ ms. rows_added same_tuple ms (tuple_of p.image cell p.plan p.keys) (picked_of p.image cell p.plan p.keys) (row ∷ rows) old) measures
-                ∙ counted (tuple_of p.image cell p.plan p.keys) (picked_of p.image cell p.plan p.keys)
-                  (λ codes. ap (map (entry_in p.plan.ties (maps_in p.image.columns cell.classes p.plan.ties p.keys) codes)) keys) row rows old
-                ∙ ap (λ k. added same_tuple (Count ∷ []) [] (rows_counted k) old) one in
+            ap (λ ms. rows_added same_tuple ms (tuple_of p.image cell p.plan p.keys) (picked_of p.image cell p.plan p.keys) (row ∷ rows) old) measures
+            ∙ counted (tuple_of p.image cell p.plan p.keys) (picked_of p.image cell p.plan p.keys)
+            (λ codes. ap (map (entry_in p.plan.ties (maps_in p.image.columns cell.classes p.plan.ties p.keys) codes)) keys) row rows old
+            ∙ ap (λ k. added same_tuple (Count ∷ []) [] (rows_counted k) old) one in
             let few = combinations same_tuple p.plan.measures [] (rows_counted n) old in
             let fewer = ap (combinations_in p.plan.measures) made in
             let grown = added-new same_tuple p.plan.measures [] (rows_counted n) old in

@@ -1,6 +1,6 @@
 -- The rows of a page that truth values select, one after another.
-use Rattle.std.proofs.Common.{◌≡◌, ◌<◌, ◌≤◌, ◌+◌, ◌*◌, ◌-◌, ℕ, zero, suc, Bool, true, false, not, ◌||◌, List, [], ◌∷◌, map, filter, length, take, drop, count_by, cond, slice_index_or, refl, sym, ap, ◌∙◌, arith, true≢false}
-use Rattle.std.specs.List.{list_any, zip}
+use Rattle.std.proofs.Common.{◌≡◌, ◌<◌, ◌≤◌, ◌+◌, ◌*◌, ℕ, zero, suc, Bool, true, false, List, [], ◌∷◌, length, drop, count_by, cond, slice_index_or, refl, sym, ap, ◌∙◌, arith, true≢false}
+use Rattle.std.specs.List.{list_any}
 use Rattle.std.proofs.lemmas.List.{get_or-take, get_or-drop, length-drop, length-take}
 use Rattle.std.proofs.lemmas.List.Sums.{sum_by-cons}
 use Rattle.blink_lists.specs.declared.limits.TheConstants.{PAGE_ROWS}

@@ -1,11 +1,10 @@
 -- The number of a tuple tells it, and a slot tells where it stands.
-use Rattle.std.proofs.Common.{◌≡◌, ◌≢◌, cond, ◌<◌, ◌≤◌, ◌+◌, ◌*◌, ◌-◌, ℕ, zero, suc, Bool, true, false, ◌&&◌, List, [], ◌∷◌, ◌++◌, length, drop, get_or, nat_lt, Option, Some, None, replicate, slice_index_or, slice_set, refl, sym, ap, subst, ◌∙◌, arith, true≢false}
+use Rattle.std.proofs.Common.{◌≡◌, ◌≢◌, cond, ◌<◌, ◌≤◌, ◌+◌, ◌*◌, ℕ, zero, suc, Bool, true, false, List, [], ◌∷◌, ◌++◌, length, drop, get_or, nat_lt, Option, Some, None, replicate, slice_index_or, slice_set, refl, sym, ap, ◌∙◌, arith, true≢false}
 use Rattle.std.specs.List.{position, position_or_len}
 use Rattle.std.specs.Option.{option_map}
 use Rattle.std.proofs.lemmas.Bool.{ltb-true, ltb-false, lt-ltb}
 use Rattle.std.proofs.lemmas.List.{length-set, get_or-set_same, get_or-set_other}
-use Rattle.blink_lists.specs.Groups.{IsSame}
-use Rattle.blink_lists.proofs.GroupLemmas.{both, and_both}
+use Rattle.blink_lists.proofs.GroupLemmas.{both}
 use Rattle.code_group.specs.declared.limits.TheConstants.{MOST_SLOTS}
 use Rattle.code_group.specs.Slots.{is_within, number_of, tuple_count, place_in, AreSlots}
 use Rattle.code_group.specs.Tuples.{same_tuple}
@@ -116,7 +115,7 @@ pub none-stands : (sizes : List ℕ) → tuple_count sizes ≤ MOST_SLOTS → Ar
 none-stands sizes few = record {
   full = λ some. sym (zeros-many (tuple_count sizes));
   few = omega (arith, zeros-many (tuple_count sizes), few);
-  tells = λ some tuple within. ap place_in (none-there (tuple_count sizes) (number_of sizes tuple))
+  tells = λ some tuple within. ap place_in (none-there (tuple_count sizes) (number_of sizes tuple));
 }
 
 -- no slots tell nothing
@@ -124,7 +123,7 @@ pub no-slots : (sizes : List ℕ) (tuples : List (List ℕ)) → AreSlots sizes 
 no-slots sizes tuples = record {
   full = λ some. absurd (omega (arith, some));
   few = omega arith;
-  tells = λ some. absurd (omega (arith, some))
+  tells = λ some. absurd (omega (arith, some));
 }
 
 -- ---- one tuple more behind the others
@@ -181,7 +180,7 @@ module _ (sizes slots tuple : List ℕ) (tuples : List (List ℕ)) (at : ℕ) (a
       let one : other ≡ tuple = tells_tuples.one other tuple e in
       let none : position (same_tuple other) tuples ≡ None = ap (λ t. position (same_tuple t) tuples) one ∙ absent in
       let slot : slice_index_or new (number_of sizes other) 0 ≡ suc at =
-          ap (λ t. slice_index_or new (number_of sizes t) 0) one ∙ get_or-set_same slots (number_of sizes tuple) (at + 1) 0 in-range ∙ (omega arith) in
+      ap (λ t. slice_index_or new (number_of sizes t) 0) one ∙ get_or-set_same slots (number_of sizes tuple) (at + 1) 0 in-range ∙ (omega arith) in
       ap place_in slot ∙ ap (λ n. Some n) here ∙ sym (found-last (same_tuple other) tuples tuple e none)
   noted-tells other fits false e =
       let apart : number_of sizes other ≢ number_of sizes tuple = λ k. true≢false (sym (tells_tuples.itself tuple) ∙ ap (λ t. same_tuple t tuple) (sym (one-number sizes other tuple fits within k)) ∙ e) in
@@ -192,7 +191,7 @@ module _ (sizes slots tuple : List ℕ) (tuples : List (List ℕ)) (at : ℕ) (a
   noted = record {
     full = λ still. are.full some ∙ sym (length-set slots (number_of sizes tuple) (at + 1));
     few = omega (arith, are.few, length-set slots (number_of sizes tuple) (at + 1));
-    tells = λ still other fits. noted-tells other fits (same_tuple other tuple) refl
+    tells = λ still other fits. noted-tells other fits (same_tuple other tuple) refl;
   }
 
 -- ---- a number, digit by digit from the last

@@ -1,5 +1,5 @@
 -- The groups of a cell, added one after another to groups of values.
-use Rattle.std.proofs.Common.{◌≡◌, ◌<◌, ◌≤◌, ◌+◌, ◌*◌, ◌==◌, ℕ, zero, suc, Bool, true, List, [], ◌∷◌, ◌++◌, map, length, take, reverse, nat_lt, get_or, slice_index_or, Option, is_some, None, refl, sym, ap, subst, ◌∙◌, arith, true≢false}
+use Rattle.std.proofs.Common.{◌≡◌, ◌<◌, ◌≤◌, ◌+◌, ◌==◌, ℕ, zero, suc, Bool, true, List, [], ◌∷◌, ◌++◌, length, take, reverse, nat_lt, get_or, slice_index_or, Option, is_some, None, refl, sym, ap, subst, ◌∙◌, arith, true≢false}
 use Rattle.std.specs.List.{list_all, zip}
 use Rattle.std.proofs.lemmas.Bool.{eqb-true, ltb-true}
 use Rattle.std.proofs.lemmas.List.{reverse-append, reverse-reverse}
@@ -18,7 +18,7 @@ use Rattle.late_decode.specs.Groups.{Grouped, added, groups_added}
 use Rattle.late_decode.specs.Parts.{no_part}
 use Rattle.order_codes.specs.Dictionary.{Classes}
 use Rattle.code_group.specs.Entries.{key_of_entries, sizes_in, size_in, value_of_entry}
-use Rattle.code_group.specs.Plans.{are_of_plan, entries_within, fact_picks, pick_there, is_of_fact}
+use Rattle.code_group.specs.Plans.{are_of_plan, entries_within, fact_picks}
 use Rattle.code_group.specs.Slots.{is_within}
 use Rattle.code_group.proofs.BoundLemmas.{values-of-plan}
 use Rattle.code_group.proofs.EntryLemmas.{length-zip}
@@ -55,9 +55,9 @@ module _ (columns : List Classes) (classes : List ℕ) (keys : List Keyed) (plan
         mine = ap (are_of_plan plan) all ∙ mine;
         theirs = ap (are_of_plan plan) same ∙ theirs;
         counts = λ k.
-        let a : counted_at (reverse left) k ≡ counted_at groups k = ap (λ (gs : Grouped (List ℕ)). counted_at gs k) all in
-        let b : counted_at into.1 k ≡ counted_at old k = ap (λ (gs : Grouped Row). counted_at gs k) same in
-        omega (arith, a, b);
+            let a : counted_at (reverse left) k ≡ counted_at groups k = ap (λ (gs : Grouped (List ℕ)). counted_at gs k) all in
+            let b : counted_at into.1 k ≡ counted_at old k = ap (λ (gs : Grouped Row). counted_at gs k) same in
+            omega (arith, a, b);
       }
 
   -- the last of those that are left is the first ahead
@@ -90,14 +90,14 @@ module _ (columns : List Classes) (classes : List ℕ) (keys : List Keyed) (plan
     spill-few bounded few key =
         let ms = plan.measures in
         subst (λ l. combinations_in l ((key, group.1) ∷ into.1) ≤ MOST_ROWS) (sym had.measures)
-          ((bounded (counted_at ((key, group.1) ∷ into.1)) (length ms)).1 MOST_ROWS
-          (λ k lt.
-          let here = sum_by-cons (λ (g : Row × List Part). (slice_index_or g.1 k no_part).count) (key, group.1) into.1 in
-          let all = counted k in
-          let both_count = had.counts k in
-          let one = (bounded (counted_at groups) (length ms)).0 k lt in
-          let two = (bounded (counted_at old) (length ms)).0 k lt in
-          omega (arith, here, all, both_count, one, two, few)))
+        ((bounded (counted_at ((key, group.1) ∷ into.1)) (length ms)).1 MOST_ROWS
+        (λ k lt.
+        let here = sum_by-cons (λ (g : Row × List Part). (slice_index_or g.1 k no_part).count) (key, group.1) into.1 in
+        let all = counted k in
+        let both_count = had.counts k in
+        let one = (bounded (counted_at groups) (length ms)).0 k lt in
+        let two = (bounded (counted_at old) (length ms)).0 k lt in
+        omega (arith, here, all, both_count, one, two, few)))
 
     pub spill-step : AddedAreGroups → CountsAdded → (key : Row) (new : List Measure × Grouped Row) → key ≡ key_for group.0 → new.0 ≡ into.0 → new.1 ≡ added same_row into.0 key group.1 into.1 → IsSpilling rest new
     spill-step law counts key new so kept made =
@@ -112,24 +112,25 @@ module _ (columns : List Classes) (classes : List ℕ) (keys : List Keyed) (plan
           mine = and_both (are_groups ms rest) (list_all long rest) parts-both.1 long-both.1;
           theirs = ap (are_of_plan plan) done ∙ values-of-plan law plan (key_for group.0) group.1 into.1 parts-both.0 wide had.theirs;
           counts = λ k.
-          let a = counted k in
-          let b : counted_at new.1 k ≡ counted_at (added same_row ms (key_for group.0) group.1 into.1) k = ap (λ (gs : Grouped Row). counted_at gs k) done in
-          let more = counts ms (key_for group.0) group.1 into.1 k in
-          let before = had.counts k in
-          omega (arith, a, b, more, before);
+              let a = counted k in
+              let b : counted_at new.1 k ≡ counted_at (added same_row ms (key_for group.0) group.1 into.1) k = ap (λ (gs : Grouped Row). counted_at gs k) done in
+              let more = counts ms (key_for group.0) group.1 into.1 k in
+              let before = had.counts k in
+              omega (arith, a, b, more, before);
         }
 
   pub spill-end : CountsBounded → (ahead : Grouped (List ℕ)) (into : List Measure × Grouped Row) → ahead ≡ [] → IsSpilling ahead into
       → (into.1 ≡ groups_added same_row plan.measures key_for groups old) × (combinations_in plan.measures into.1 ≤ combinations_in plan.measures groups + combinations_in plan.measures old)
   spill-end bounded ahead into none had =
-      let ms = plan.measures in
-      (ap (λ gs. groups_added same_row ms key_for gs into.1) (sym none) ∙ had.added,
-      (bounded (counted_at into.1) (length ms)).1 (combinations_in ms groups + combinations_in ms old)
-      (λ k lt.
-      let before = had.counts k in
-      let one = (bounded (counted_at groups) (length ms)).0 k lt in
-      let two = (bounded (counted_at old) (length ms)).0 k lt in
-      omega (arith, before, one, two)))
+      let ms = plan.measures in (
+        ap (λ gs. groups_added same_row ms key_for gs into.1) (sym none) ∙ had.added,
+        (bounded (counted_at into.1) (length ms)).1 (combinations_in ms groups + combinations_in ms old)
+            (λ k lt.
+            let before = had.counts k in
+            let one = (bounded (counted_at groups) (length ms)).0 k lt in
+            let two = (bounded (counted_at old) (length ms)).0 k lt in
+            omega (arith, before, one, two)),
+      )
 
 -- one more, behind the others
 pub length-last : {X : Type 0} (xs rest : List X) (x : X) → xs ≡ rest ++ x ∷ [] → length xs ≡ length rest + 1

@@ -12,7 +12,7 @@ use Rattle.late_decode.specs.Groups.{Grouped}
 use Rattle.code_group.specs.CellRow.{TiedRow, tied_row}
 use Rattle.code_group.specs.Entries.{has_keys, maps_in, sizes_in}
 use Rattle.code_group.specs.GroupRows.{picked_of, cell_rows_added}
-use Rattle.code_group.specs.Plans.{plan_there, sums_numbers, are_of_plan, entries_within, fact_value_picks, none_behind}
+use Rattle.code_group.specs.Plans.{plan_there, sums_numbers, are_of_plan, entries_within, none_behind}
 
 -- a page of a cell of an image, the truth values of its rows, and what its rows are grouped by
 pub record SelectedPage : Type 0 where

@@ -1,6 +1,5 @@
 // A row of a cell beside the keys of its ties.
 ghost use Rattle.std.specs.Prelude.{◌≡◌, ◌<◌, ◌≤◌, ◌+◌, [], ◌∷◌, true, IsTrue, OnOk, length};
-
 ghost use Rattle.code_group.specs.CellRow.{HaveClasses, picked_by, pick_by, tuple_by};
 ghost use Rattle.code_group.specs.Entries.{entry_in, maps_in, size_in, sizes_in, value_of_entry};
 ghost use Rattle.code_group.specs.Plans.{fact_picks, pick_there};
@@ -62,7 +61,9 @@ impl<'a, M: Ledger> CellRow<'a, M> {
         requires { tie < length self.now.ties }
         ensures { result ≡ entry_in self.now.ties (maps_in self.now.columns self.now.classes self.now.ties self.now.keys) self.now.codes (Dimension tie 0) }
     {
-        let code = self.image.code(self.cell, self.row, self.ties[tie] as usize);
+        let code = self
+            .image
+            .code(self.cell, self.row, self.ties[tie] as usize);
         match self.maps[tie].get(code) {
             Some(place) => place,
             None => 0,

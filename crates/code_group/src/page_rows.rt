@@ -81,7 +81,12 @@ impl<'a, M: Ledger> PageRows<'a, M> {
         if rows == 0 {
             return Ok(());
         }
-        into.count(alloc, self.plan.measures.as_slice(), &Tuple::new(alloc), rows)
+        into.count(
+            alloc,
+            self.plan.measures.as_slice(),
+            &Tuple::new(alloc),
+            rows,
+        )
     }
 
     // Adds the selected rows, one after another.

@@ -10,7 +10,9 @@ ghost use Rattle.late_decode.specs.Bounds.{combinations_in};
 use crate::rest_row::RestRow;
 use blink_base::Row;
 use code_join::KeyMap;
-use late_decode::laws::{added_are_groups, combinations_added, combinations_together, rows_are_parts};
+use late_decode::laws::{
+    added_are_groups, combinations_added, combinations_together, rows_are_parts,
+};
 use late_decode::{GroupPlan, Groups};
 use std::alloc::{AllocError, Global};
 

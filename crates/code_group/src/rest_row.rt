@@ -46,7 +46,9 @@ impl<'a> RestRow<'a> {
     {
         match pick {
             Pick::Fact(column) => &self.row.as_slice()[column as usize],
-            Pick::Dimension { tie, place } => &self.payload(tie as usize).as_slice()[place as usize],
+            Pick::Dimension { tie, place } => &self
+                .payload(tie as usize)
+                .as_slice()[place as usize],
         }
     }
 
@@ -77,7 +79,11 @@ impl<'a> RestRow<'a> {
     }
 
     // Its parts, one a measure.
-    pub(crate) fn parts(&self, alloc: Global, measures: &[Measure]) -> Result<List<Part>, AllocError>
+    pub(crate) fn parts(
+        &self,
+        alloc: Global,
+        measures: &[Measure],
+    ) -> Result<List<Part>, AllocError>
         requires picks { IsTrue (list_all (measure_there (length self.now.row.now) self.now.keys.now) measures.now) }
         requires numbers { IsTrue (list_all (measure_sums (picked_beside self.now.ties.now self.now.keys.now self.now.row.now)) measures.now) }
         ensures { IfOk result (λ parts. parts ≡ parts_over measures.now (picked_beside self.now.ties.now self.now.keys.now self.now.row.now ∷ [])) }

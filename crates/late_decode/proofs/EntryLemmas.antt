@@ -169,6 +169,7 @@ fold_most f most acc from (suc count) le each =
     (λ k lt. let there = each (suc k) (omega (arith, lt)) in let moved : f (from + suc k) ≡ f (from + 1 + k) = ap f (omega arith) in omega (arith, there, moved))
 
 pub counts_bounded : CountsBounded
-counts_bounded counted measures =
-    (λ k lt. let all = fold_numbers counted 0 0 measures k lt in let same : counted (0 + k) ≡ counted k = ap counted (omega arith) in omega (arith, all, same),
-    λ most each. fold_most counted most 0 0 measures (omega arith) (λ k lt. let here = each k lt in let same : counted (0 + k) ≡ counted k = ap counted (omega arith) in omega (arith, here, same)))
+counts_bounded counted measures = (
+  λ k lt. let all = fold_numbers counted 0 0 measures k lt in let same : counted (0 + k) ≡ counted k = ap counted (omega arith) in omega (arith, all, same),
+  λ most each. fold_most counted most 0 0 measures (omega arith) (λ k lt. let here = each k lt in let same : counted (0 + k) ≡ counted k = ap counted (omega arith) in omega (arith, here, same)),
+)

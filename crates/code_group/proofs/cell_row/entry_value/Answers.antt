@@ -1,4 +1,4 @@
-use Rattle.std.proofs.Common.{◌≡◌, ◌<◌, true, [], pos, Some, ◌∙◌, sym, ap, subst, length, nat_lt, unwrap_or, slice_index_or, arith}
+use Rattle.std.proofs.Common.{◌≡◌, true, [], pos, ◌∙◌, sym, ap, subst, length, nat_lt, unwrap_or, slice_index_or, arith}
 use Rattle.std.specs.List.{list_all}
 use Rattle.std.specs.Map.{values_of}
 use Rattle.std.proofs.lemmas.Bool.{ltb-true}

@@ -21,7 +21,7 @@ add-requires-clause-parts c =
     let joined : has_keys plan.ties c.args.keys.now c.args.row.now ≡ true = (λ i. has_keys (sym ties i) (sym keys i) (sym row i)) ∙ c.in-Some.rest.joined in
     let key : c.in_ok-key-in-Some.key ≡ key_of plan.keys at = c.in_ok-key-in-Some.ensures ∙ (λ i. key_of (c.as_slice-in-Some.ensures i) (picked_beside (ties i) (keys i) (row i))) in
     let parts : c.in_ok-parts-in-Some.parts ≡ parts_over plan.measures (at ∷ []) =
-        c.in_ok-parts-in-Some.ensures ∙ (λ i. parts_over (c.as_slice-in-Some-2.ensures i) (picked_beside (ties i) (keys i) (row i) ∷ [])) in
+    c.in_ok-parts-in-Some.ensures ∙ (λ i. parts_over (c.as_slice-in-Some-2.ensures i) (picked_beside (ties i) (keys i) (row i) ∷ [])) in
     rest-parts plan at c.args.into.now c.in_ok-key-in-Some.key c.in_ok-parts-in-Some.parts c.requires.measures key parts (c.requires.numbers joined) c.rows_are_parts.ensures
 
 pub add-requires-clause-few : goal.add-requires-clause-few
@@ -34,7 +34,7 @@ add-requires-clause-few c =
     let joined : has_keys plan.ties c.args.keys.now c.args.row.now ≡ true = (λ i. has_keys (sym ties i) (sym keys i) (sym row i)) ∙ c.in-Some.rest.joined in
     let key : c.in_ok-key-in-Some.key ≡ key_of plan.keys at = c.in_ok-key-in-Some.ensures ∙ (λ i. key_of (c.as_slice-in-Some.ensures i) (picked_beside (ties i) (keys i) (row i))) in
     let parts : c.in_ok-parts-in-Some.parts ≡ parts_over plan.measures (at ∷ []) =
-        c.in_ok-parts-in-Some.ensures ∙ (λ i. parts_over (c.as_slice-in-Some-2.ensures i) (picked_beside (ties i) (keys i) (row i) ∷ [])) in
+    c.in_ok-parts-in-Some.ensures ∙ (λ i. parts_over (c.as_slice-in-Some-2.ensures i) (picked_beside (ties i) (keys i) (row i) ∷ [])) in
     rest-few plan at c.args.into.now c.in_ok-key-in-Some.key c.in_ok-parts-in-Some.parts c.requires.measures key parts (c.requires.numbers joined) c.combinations_together.ensures c.requires.few
 
 pub returns-in_ok-parts-in-Some-clause-added : goal.returns-in_ok-parts-in-Some-clause-added
@@ -47,13 +47,13 @@ returns-in_ok-parts-in-Some-clause-added c =
     let joined : has_keys plan.ties c.args.keys.now c.args.row.now ≡ true = (λ i. has_keys (sym ties i) (sym keys i) (sym row i)) ∙ c.in-Some.rest.joined in
     let key : c.in_ok-key-in-Some.key ≡ key_of plan.keys at = c.in_ok-key-in-Some.ensures ∙ (λ i. key_of (c.as_slice-in-Some.ensures i) (picked_beside (ties i) (keys i) (row i))) in
     let parts : c.in_ok-parts-in-Some.parts ≡ parts_over plan.measures (at ∷ []) =
-        c.in_ok-parts-in-Some.ensures ∙ (λ i. parts_over (c.as_slice-in-Some-2.ensures i) (picked_beside (ties i) (keys i) (row i) ∷ [])) in
+    c.in_ok-parts-in-Some.ensures ∙ (λ i. parts_over (c.as_slice-in-Some-2.ensures i) (picked_beside (ties i) (keys i) (row i) ∷ [])) in
     let new = c.add.new.self.1 in
     let old = c.args.into.now.1 in
     let here = ap (λ b. rest_added plan c.args.keys.now (cond b (c.args.row.now ∷ []) []) old) (sym joined) in
     on-ok c.add.result (new ≡ added same_row c.args.into.now.0 c.in_ok-key-in-Some.key c.in_ok-parts-in-Some.parts old)
-      (new ≡ rest_added plan c.args.keys.now (cond (has_keys plan.ties c.args.keys.now c.args.row.now) (c.args.row.now ∷ []) []) old)
-      (λ e. rest-made plan at c.args.into.now c.in_ok-key-in-Some.key c.in_ok-parts-in-Some.parts c.requires.measures key parts (c.requires.numbers joined) new e ∙ here) c.add.ensures.ok
+    (new ≡ rest_added plan c.args.keys.now (cond (has_keys plan.ties c.args.keys.now c.args.row.now) (c.args.row.now ∷ []) []) old)
+    (λ e. rest-made plan at c.args.into.now c.in_ok-key-in-Some.key c.in_ok-parts-in-Some.parts c.requires.measures key parts (c.requires.numbers joined) new e ∙ here) c.add.ensures.ok
 
 pub returns-in_ok-parts-in-Some-clause-groups : goal.returns-in_ok-parts-in-Some-clause-groups
 returns-in_ok-parts-in-Some-clause-groups c =
@@ -65,10 +65,10 @@ returns-in_ok-parts-in-Some-clause-groups c =
     let joined : has_keys plan.ties c.args.keys.now c.args.row.now ≡ true = (λ i. has_keys (sym ties i) (sym keys i) (sym row i)) ∙ c.in-Some.rest.joined in
     let key : c.in_ok-key-in-Some.key ≡ key_of plan.keys at = c.in_ok-key-in-Some.ensures ∙ (λ i. key_of (c.as_slice-in-Some.ensures i) (picked_beside (ties i) (keys i) (row i))) in
     let parts : c.in_ok-parts-in-Some.parts ≡ parts_over plan.measures (at ∷ []) =
-        c.in_ok-parts-in-Some.ensures ∙ (λ i. parts_over (c.as_slice-in-Some-2.ensures i) (picked_beside (ties i) (keys i) (row i) ∷ [])) in
+    c.in_ok-parts-in-Some.ensures ∙ (λ i. parts_over (c.as_slice-in-Some-2.ensures i) (picked_beside (ties i) (keys i) (row i) ∷ [])) in
     let new = c.add.new.self.1 in
     on-ok c.add.result (new ≡ added same_row c.args.into.now.0 c.in_ok-key-in-Some.key c.in_ok-parts-in-Some.parts c.args.into.now.1) (are_of_plan plan new ≡ true)
-      (λ e. rest-groups plan at c.args.into.now c.in_ok-key-in-Some.key c.in_ok-parts-in-Some.parts c.requires.measures key parts (c.requires.numbers joined) new e c.added_are_groups.ensures c.rows_are_parts.ensures c.requires.groups) c.add.ensures.ok
+    (λ e. rest-groups plan at c.args.into.now c.in_ok-key-in-Some.key c.in_ok-parts-in-Some.parts c.requires.measures key parts (c.requires.numbers joined) new e c.added_are_groups.ensures c.rows_are_parts.ensures c.requires.groups) c.add.ensures.ok
 
 pub returns-in_ok-parts-in-Some-clause-few : goal.returns-in_ok-parts-in-Some-clause-few
 returns-in_ok-parts-in-Some-clause-few c =
@@ -80,8 +80,8 @@ returns-in_ok-parts-in-Some-clause-few c =
     let joined : has_keys plan.ties c.args.keys.now c.args.row.now ≡ true = (λ i. has_keys (sym ties i) (sym keys i) (sym row i)) ∙ c.in-Some.rest.joined in
     let key : c.in_ok-key-in-Some.key ≡ key_of plan.keys at = c.in_ok-key-in-Some.ensures ∙ (λ i. key_of (c.as_slice-in-Some.ensures i) (picked_beside (ties i) (keys i) (row i))) in
     let parts : c.in_ok-parts-in-Some.parts ≡ parts_over plan.measures (at ∷ []) =
-        c.in_ok-parts-in-Some.ensures ∙ (λ i. parts_over (c.as_slice-in-Some-2.ensures i) (picked_beside (ties i) (keys i) (row i) ∷ [])) in
+    c.in_ok-parts-in-Some.ensures ∙ (λ i. parts_over (c.as_slice-in-Some-2.ensures i) (picked_beside (ties i) (keys i) (row i) ∷ [])) in
     let new = c.add.new.self.1 in
     on-ok c.add.result (new ≡ added same_row c.args.into.now.0 c.in_ok-key-in-Some.key c.in_ok-parts-in-Some.parts c.args.into.now.1)
-      (combinations_in plan.measures new ≤ combinations_in plan.measures c.args.into.now.1 + 1)
-      (λ e. rest-fewer plan at c.args.into.now c.in_ok-key-in-Some.key c.in_ok-parts-in-Some.parts c.requires.measures key parts (c.requires.numbers joined) new e c.combinations_added.ensures) c.add.ensures.ok
+    (combinations_in plan.measures new ≤ combinations_in plan.measures c.args.into.now.1 + 1)
+    (λ e. rest-fewer plan at c.args.into.now c.in_ok-key-in-Some.key c.in_ok-parts-in-Some.parts c.requires.measures key parts (c.requires.numbers joined) new e c.combinations_added.ensures) c.add.ensures.ok

@@ -1,4 +1,4 @@
-use Rattle.std.proofs.Common.{◌≡◌, ◌<◌, ◌+◌, ◌-◌, ◌*◌, drop, length, get_or, sym, ◌∙◌, ap, arith}
+use Rattle.std.proofs.Common.{◌≡◌, ◌-◌, ◌*◌, drop, get_or, sym, ◌∙◌, ap, arith}
 use Rattle.code_group.specs.Slots.{number_of}
 use Rattle.code_group.proofs.SlotLemmas.{within-length, number-end, number-more, number-few, number-below}
 use Rattle.code_group.proofs.slots.number_of.Goals as goal

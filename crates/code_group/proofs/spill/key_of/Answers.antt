@@ -1,4 +1,4 @@
-use Rattle.std.proofs.Common.{◌≡◌, ◌++◌, ◌∷◌, [], sym, ap, ◌∙◌, arith}
+use Rattle.std.proofs.Common.{◌≡◌, ◌++◌, ◌∷◌, [], sym, ◌∙◌, arith}
 use Rattle.std.proofs.lemmas.List.{take_all}
 use Rattle.late_decode.specs.declared.plan.Pick.TheVariants.{Fact}
 use Rattle.code_group.specs.Entries.{key_of_entries}
@@ -34,7 +34,7 @@ loop-at-preserved g c =
     let items : c.push.new.self.items ≡ c.loop-at.values.items ++ c.in_ok-copy.field-0 ∷ [] = c.in_ok-push.ensures.items in
     record {
       key = items ∙ (λ i. c.loop-at.invariant.key i ++ value i ∷ [])
-        ∙ sym (key-more c.args.dicts.now c.args.classes.now c.args.keys.now c.args.picks.now c.args.entries.now c.loop-at.at (Fact 0) c.requires.within c.loop-at-test.true);
+          ∙ sym (key-more c.args.dicts.now c.args.classes.now c.args.keys.now c.args.picks.now c.args.entries.now c.loop-at.at (Fact 0) c.requires.within c.loop-at-test.true);
       decodes = omega (arith, had, more, step);
     }
 

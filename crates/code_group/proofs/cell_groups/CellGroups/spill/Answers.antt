@@ -1,4 +1,4 @@
-use Rattle.std.proofs.Common.{◌≡◌, ◌+◌, ◌*◌, ℕ, List, [], reverse, length, sym, ap, subst, ◌∙◌, arith}
+use Rattle.std.proofs.Common.{◌*◌, ℕ, List, reverse, length, sym, ap, subst, ◌∙◌, arith}
 use Rattle.std.specs.List.{list_all}
 use Rattle.cell_layout.specs.Image.{cell_at}
 use Rattle.late_decode.specs.declared.plan.Part.{Part}
@@ -16,7 +16,7 @@ key_of-requires-clause-classes g c =
     let image = c.args.image.now in
     let facts = cell-facts image.columns (cell_at image c.args.cell) (valid-cell image c.args.cell c.requires.valid c.requires.cell) in
     subst (λ d. HaveClasses d c.cell_classes-classes.result.now) (sym c.dictionaries-dicts.ensures.columns)
-      (subst (λ n. HaveClasses image.columns n) (sym c.cell_classes-classes.ensures) facts.classes)
+    (subst (λ n. HaveClasses image.columns n) (sym c.cell_classes-classes.ensures) facts.classes)
 
 pub key_of-requires-clause-picks : goal.key_of-requires-clause-picks
 key_of-requires-clause-picks g c = (λ i. list_all (pick_there (length (c.dictionaries-dicts.ensures.columns i)) c.args.keys.now) (c.as_slice-picks.ensures i)) ∙ c.requires.picks
@@ -57,7 +57,7 @@ add-requires-clause-few g c =
     let group : List ℕ × List Part = (c.in-Some.tuple, c.in-Some.parts) in
     let next = turned image.columns classes keys plan c.args.self c.args.into.now.1 left rest group c.in-Some.ensures.entries in
     spill-few image.columns classes keys plan c.args.self c.args.into.now.1 (reverse left) group (reverse rest) c.loop-tuple.into next c.loop-tuple.invariant.spilling
-      c.counts_bounded.ensures c.requires.few c.in_ok-key.key
+    c.counts_bounded.ensures c.requires.few c.in_ok-key.key
 
 pub loop-tuple-preserved : goal.loop-tuple-preserved
 loop-tuple-preserved g c =
@@ -77,7 +77,7 @@ loop-tuple-preserved g c =
     let split = one-more (length rest) (fact_key_picks plan) in
     record {
       spilling = spill-step image.columns classes keys plan c.args.self c.args.into.now.1 (reverse left) group (reverse rest) c.loop-tuple.into next c.loop-tuple.invariant.spilling
-        c.added_are_groups.ensures c.counts_added.ensures c.in_ok-key.key c.add.new.self key c.add.ensures.measures c.in_ok-add.ensures.ok;
+          c.added_are_groups.ensures c.counts_added.ensures c.in_ok-key.key c.add.new.self key c.add.ensures.measures c.in_ok-add.ensures.ok;
       decodes = omega (arith, had, more, picks, many, split);
     }
 

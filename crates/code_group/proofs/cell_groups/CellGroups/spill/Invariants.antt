@@ -1,4 +1,4 @@
-use Rattle.std.proofs.Common.{◌≡◌, ◌≤◌, ◌+◌, ◌*◌, length, reverse}
+use Rattle.std.proofs.Common.{◌≤◌, ◌+◌, ◌*◌, length, reverse}
 use Rattle.cell_layout.specs.Image.{cell_at}
 use Rattle.code_group.specs.Plans.{fact_key_picks}
 use Rattle.code_group.proofs.SpillLemmas.{IsSpilling}

@@ -10,7 +10,7 @@ returns-in-Fact-clause-within g c =
     let maps = c.self.inside.maps.now in
     let tied = subst (λ r. IsTied r maps) c.self.view_is c.self.invariant.2 in
     let entry : c.code.result ≡ entry_in row.ties (maps_in row.columns row.classes row.ties row.keys) row.codes c.args.pick =
-        c.code.ensures ∙ ap (λ r. slice_index_or r.codes c.in-Fact.column 0) c.self.view_is ∙ ap (entry_in row.ties (maps_in row.columns row.classes row.ties row.keys) row.codes) (sym c.in-Fact.is) in
+    c.code.ensures ∙ ap (λ r. slice_index_or r.codes c.in-Fact.column 0) c.self.view_is ∙ ap (entry_in row.ties (maps_in row.columns row.classes row.ties row.keys) row.codes) (sym c.in-Fact.is) in
     let below = row-below c.entries_by_place.ensures c.places_by_code.ensures row maps tied c.args.pick c.requires in
     omega (arith, entry, below)
 
@@ -20,6 +20,6 @@ returns-in-Dimension-clause-within g c =
     let maps = c.self.inside.maps.now in
     let tied = subst (λ r. IsTied r maps) c.self.view_is c.self.invariant.2 in
     let entry : c.place.result ≡ entry_in row.ties (maps_in row.columns row.classes row.ties row.keys) row.codes c.args.pick =
-        c.place.ensures ∙ ap (entry_in row.ties (maps_in row.columns row.classes row.ties row.keys) row.codes) (sym c.in-Dimension.is) in
+    c.place.ensures ∙ ap (entry_in row.ties (maps_in row.columns row.classes row.ties row.keys) row.codes) (sym c.in-Dimension.is) in
     let below = row-below c.entries_by_place.ensures c.places_by_code.ensures row maps tied c.args.pick c.requires in
     omega (arith, entry, below)

@@ -24,5 +24,5 @@ returns-in-Some g c =
     let map = sym c.index-self-tie.is ∙ there-at maps tie c.index-self-tie.result [] (omega (arith, many, within)) c.index-self-tie.is ∙ ap (λ m. slice_index_or m tie []) tied.mapped in
     let code = c.code-code.ensures ∙ ap (λ r. slice_index_or r.codes (slice_index_or r.ties tie 0) 0) c.self.view_is in
     let got : Some c.in-Some.place ≡ slice_index_or (slice_index_or (maps_in row.columns row.classes row.ties row.keys) tie []) (slice_index_or row.codes (slice_index_or row.ties tie 0) 0) None =
-        sym c.in-Some.is ∙ c.get.ensures ∙ (λ i. slice_index_or (map i) (code i) None) in
+    sym c.in-Some.is ∙ c.get.ensures ∙ (λ i. slice_index_or (map i) (code i) None) in
     ap (λ o. unwrap_or o 0) got

@@ -1,4 +1,4 @@
-use Rattle.std.proofs.Common.{◌≡◌, ◌∙◌, sym, ap, subst}
+use Rattle.std.proofs.Common.{◌∙◌, sym, ap, subst}
 use Rattle.code_group.specs.CellRow.{IsTied}
 use Rattle.code_group.specs.Entries.{value_of_entry}
 use Rattle.code_group.proofs.CellRowLemmas.{row-pick}

@@ -1,4 +1,4 @@
-use Rattle.std.proofs.Common.{◌≡◌, ◌<◌, ◌≤◌, ◌+◌, ◌*◌, [], ◌∷◌, true, false, slice_index_or, ap, sym, subst, ◌∙◌, arith}
+use Rattle.std.proofs.Common.{◌≡◌, ◌<◌, ◌+◌, ◌*◌, [], ◌∷◌, false, slice_index_or, ap, sym, subst, ◌∙◌, arith}
 use Rattle.std.specs.List.{list_all, flat_map}
 use Rattle.blink_lists.specs.declared.limits.TheConstants.{MOST_ROWS}
 use Rattle.late_decode.specs.Bounds.{combinations_in}
@@ -22,7 +22,7 @@ row-row-requires-clause-joined g c =
     let bits = ap (λ q. q.bits) c.self.view_is in
     let place = c.in-Some.ensures.place in
     next-joined p maps may c.loop-at.from at c.args.into.now.0 c.loop-at.into.0 c.loop-at.invariant.added place.0
-      (λ k l m. ap (λ bs. slice_index_or bs k false) (sym bits) ∙ c.in-Some.ensures.least k l m) (ap (λ bs. slice_index_or bs at false) (sym bits) ∙ place.2)
+    (λ k l m. ap (λ bs. slice_index_or bs k false) (sym bits) ∙ c.in-Some.ensures.least k l m) (ap (λ bs. slice_index_or bs at false) (sym bits) ∙ place.2)
 
 pub add-requires-clause-few : goal.add-requires-clause-few
 add-requires-clause-few g c =
@@ -34,8 +34,8 @@ add-requires-clause-few g c =
     let place = c.in-Some.ensures.place in
     let ms = c.as_slice-in-Some.ensures ∙ ap (λ q. q.plan.measures) c.self.view_is in
     subst (λ l. combinations_in l c.loop-at.into.0 < MOST_ROWS) (sym ms)
-      (next-few p maps may c.loop-at.from at c.args.into.now.0 c.loop-at.into.0 c.loop-at.invariant.added place.0
-      (λ k l m. ap (λ bs. slice_index_or bs k false) (sym bits) ∙ c.in-Some.ensures.least k l m) (ap (λ bs. slice_index_or bs at false) (sym bits) ∙ place.2) c.requires.ready)
+    (next-few p maps may c.loop-at.from at c.args.into.now.0 c.loop-at.into.0 c.loop-at.invariant.added place.0
+    (λ k l m. ap (λ bs. slice_index_or bs k false) (sym bits) ∙ c.in-Some.ensures.least k l m) (ap (λ bs. slice_index_or bs at false) (sym bits) ∙ place.2) c.requires.ready)
 
 pub add-requires-clause-picks : goal.add-requires-clause-picks
 add-requires-clause-picks g c =
@@ -56,7 +56,7 @@ add-requires-clause-numbers g c =
     let ms = c.as_slice-in-Some.ensures ∙ ap (λ q. q.plan.measures) c.self.view_is in
     (λ i. list_all (measure_sums (picked_by (c.row-row.ensures i))) (ms i))
     ∙ next-numbers p maps may c.loop-at.from at c.args.into.now.0 c.loop-at.into.0 c.loop-at.invariant.added place.0
-      (λ k l m. ap (λ bs. slice_index_or bs k false) (sym bits) ∙ c.in-Some.ensures.least k l m) (ap (λ bs. slice_index_or bs at false) (sym bits) ∙ place.2)
+    (λ k l m. ap (λ bs. slice_index_or bs k false) (sym bits) ∙ c.in-Some.ensures.least k l m) (ap (λ bs. slice_index_or bs at false) (sym bits) ∙ place.2)
 
 pub returns-in_err-add-clause-decodes : goal.returns-in_err-add-clause-decodes
 returns-in_err-add-clause-decodes g c =
@@ -68,7 +68,7 @@ returns-in_err-add-clause-decodes g c =
     let place = c.in-Some.ensures.place in
     let ms = c.as_slice-in-Some.ensures ∙ ap (λ q. q.plan.measures) c.self.view_is in
     let count = next-count p maps may c.loop-at.from at c.args.into.now.0 c.loop-at.into.0 c.loop-at.invariant.added place.0
-        (λ k l m. ap (λ bs. slice_index_or bs k false) (sym bits) ∙ c.in-Some.ensures.least k l m) (ap (λ bs. slice_index_or bs at false) (sym bits) ∙ place.2) in
+    (λ k l m. ap (λ bs. slice_index_or bs k false) (sym bits) ∙ c.in-Some.ensures.least k l m) (ap (λ bs. slice_index_or bs at false) (sym bits) ∙ place.2) in
     let had = c.loop-at.invariant.decodes in
     let more = c.add.ensures.decodes in
     let picks = ap (λ l. fact_picks (flat_map measure_picks l)) ms in
@@ -95,7 +95,7 @@ loop-at-preserved g c =
     let fits = (λ i. is_within (sizes_in (row-back i).columns (row-back i).classes (row-back i).keys (keys-back i)) (tuple-back i)) ∙ c.in_ok-fill.ensures.within in
     let made = c.in_ok-add.ensures.groups ∙ (λ i. added same_tuple (ms i) (tuple i) (parts_over (ms i) (picked_by (row i) ∷ [])) groups) in
     let count = next-count p maps may c.loop-at.from at c.args.into.now.0 groups c.loop-at.invariant.added place.0
-        (λ k l m. ap (λ bs. slice_index_or bs k false) (sym bits) ∙ c.in-Some.ensures.least k l m) (ap (λ bs. slice_index_or bs at false) (sym bits) ∙ place.2) in
+    (λ k l m. ap (λ bs. slice_index_or bs k false) (sym bits) ∙ c.in-Some.ensures.least k l m) (ap (λ bs. slice_index_or bs at false) (sym bits) ∙ place.2) in
     let had = c.loop-at.invariant.decodes in
     let more = c.add.ensures.decodes in
     let picks = ap (λ l. fact_picks (flat_map measure_picks l)) ms in
@@ -104,8 +104,8 @@ loop-at-preserved g c =
     let low = place.1 in
     record {
       added = next-added p maps may c.loop-at.from at c.args.into.now.0 groups c.loop-at.invariant.added place.0
-        (λ k l m. ap (λ bs. slice_index_or bs k false) (sym bits) ∙ c.in-Some.ensures.least k l m) (ap (λ bs. slice_index_or bs at false) (sym bits) ∙ place.2)
-        c.added_are_coded.ensures c.coded_combinations_added.ensures c.rows_are_parts.ensures c.add.new.self.0 fits made;
+          (λ k l m. ap (λ bs. slice_index_or bs k false) (sym bits) ∙ c.in-Some.ensures.least k l m) (ap (λ bs. slice_index_or bs at false) (sym bits) ∙ place.2)
+          c.added_are_coded.ensures c.coded_combinations_added.ensures c.rows_are_parts.ensures c.add.new.self.0 fits made;
       sizes = c.add.ensures.sizes ∙ c.loop-at.invariant.sizes;
       decodes = omega (arith, had, more, picks, product, split);
       within = omega (arith, low);

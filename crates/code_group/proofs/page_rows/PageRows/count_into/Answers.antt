@@ -1,4 +1,4 @@
-use Rattle.std.proofs.Common.{◌≡◌, ◌<◌, [], ap, sym, subst, count_by, ◌∙◌, arith}
+use Rattle.std.proofs.Common.{◌≡◌, ap, subst, count_by, ◌∙◌, arith}
 use Rattle.late_decode.specs.Groups.{added}
 use Rattle.code_group.specs.PageGroups.{MayGroup, HaveAll, count_from}
 use Rattle.code_group.specs.RowParts.{rows_counted}
@@ -26,6 +26,6 @@ returns g c =
     let rows : n ≡ count_from p 0 = c.count-rows.ensures ∙ ap (λ q. count_by (λ b. b) q.bits) c.self.view_is in
     let ms = c.as_slice.ensures ∙ ap (λ q. q.plan.measures) c.self.view_is in
     on-ok c.count-2.result (new ≡ added same_tuple c.as_slice.result.now c.new.result (rows_counted n) old) (HaveAll p old new)
-      (λ e.
-      all-counted p maps may c.requires.keys c.requires.measures old c.requires.ready c.added_are_coded.ensures c.coded_combinations_added.ensures n new rows (omega arith)
-      (e ∙ (λ i. added same_tuple (ms i) (c.new.ensures i) (rows_counted n) old))) c.count-2.ensures.groups
+    (λ e.
+    all-counted p maps may c.requires.keys c.requires.measures old c.requires.ready c.added_are_coded.ensures c.coded_combinations_added.ensures n new rows (omega arith)
+    (e ∙ (λ i. added same_tuple (ms i) (c.new.ensures i) (rows_counted n) old))) c.count-2.ensures.groups

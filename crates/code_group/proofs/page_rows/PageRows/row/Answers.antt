@@ -1,6 +1,5 @@
-use Rattle.std.proofs.Common.{◌≡◌, ◌+◌, ◌*◌, true, false, slice_index_or, ap, sym, subst, ◌∙◌, arith}
+use Rattle.std.proofs.Common.{◌+◌, ◌*◌, false, slice_index_or, ap, sym, subst, ◌∙◌, arith}
 use Rattle.blink_lists.specs.declared.limits.TheConstants.{PAGE_ROWS}
-use Rattle.cell_layout.specs.Image.{cell_at}
 use Rattle.code_group.specs.CellRow.{IsTied, tied_row}
 use Rattle.code_group.specs.PageGroups.{page_of, codes_at, row_joined}
 use Rattle.code_group.proofs.PageLemmas.{facts, at-row, at-tied}

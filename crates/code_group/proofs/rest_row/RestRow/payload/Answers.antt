@@ -1,5 +1,4 @@
-use Rattle.std.proofs.Common.{◌≡◌, [], pos, true, length, nat_lt, slice_index_or, slice_get, sym, ap, ◌∙◌, arith, true≢false}
-use Rattle.std.specs.List.{list_all}
+use Rattle.std.proofs.Common.{[], pos, length, nat_lt, slice_index_or, slice_get, sym, ap, ◌∙◌, arith, true≢false}
 use Rattle.std.specs.Map.{values_of}
 use Rattle.std.specs.Option.{is_some}
 use Rattle.std.proofs.lemmas.Bool.{ltb-true}

@@ -45,4 +45,4 @@ returns-clause-groups g c =
     let so : es ≡ with_group ms tuple c.args.self.now.0 = ap (λ v. v.0) c.self.view_is ∙ c.in_ok-at.ensures.groups in
     let place : position (same_tuple tuple) (keys_of es) ≡ Some at = ap (λ v. position (same_tuple tuple) (keys_of v.0)) c.self.view_is ∙ c.in_ok-at.ensures.place in
     on-ok c.merge_row.result (c.merge_row.new.own ≡ merged_parts ms own parts) (set_value_at es at c.merge_row.new.own ≡ added same_tuple ms tuple parts c.args.self.now.0)
-      (λ e. ap (set_value_at es at) e ∙ added-at ms tuple parts c.args.self.now.0 es at own so place (sym c.in-Some.ensures.value)) c.merge_row.ensures.parts
+    (λ e. ap (set_value_at es at) e ∙ added-at ms tuple parts c.args.self.now.0 es at own so place (sym c.in-Some.ensures.value)) c.merge_row.ensures.parts
