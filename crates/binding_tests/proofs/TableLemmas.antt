@@ -1,9 +1,10 @@
 -- The tables of the tests, as a catalog.
-use Rattle.std.proofs.Common.{◌≡◌, ◌<◌, ◌≤◌, ◌^◌, ℕ, Bool, true, false, ◌&&◌, List, length, Option, Some, None, sym, ap, ◌∙◌, subst, true≢false, length-map, arith}
+use Rattle.std.proofs.Common.{◌≡◌, ◌<◌, ◌≤◌, ◌^◌, ℕ, Bool, true, false, ◌&&◌, List, length, Option, Some, None, sym, ap, ◌∙◌, subst, map, true≢false, arith}
 use Rattle.std.specs.Prelude.{codes, if◌then◌else◌}
 use Rattle.std.specs.Option.{is_some}
 use Rattle.std.specs.Str.{bytes_eq}
 use Rattle.std.proofs.lemmas.Bool.{and_parts}
+use Rattle.std.proofs.lemmas.List.{length-map}
 use Rattle.blink_base.specs.declared.schema.Schema.{Schema}
 use Rattle.blink_base.specs.RowFits.{is_schema}
 use Rattle.star_lex.specs.declared.token.Token.{Token}
@@ -15,7 +16,10 @@ use Rattle.binding_tests.specs.Allowed.{are_allowed}
 
 -- a short text has few tokens
 pub few_tokens : (bytes : List ℕ) (tokens : List Token) (s : Statement) → length tokens ≤ length bytes → length bytes ≤ 2000 → IsSpelled (kinds_of tokens) s → HasFewTokens s
-few_tokens bytes tokens s fewer short spelled = (let same = ap length spelled.spelled ∙ length-map tokens (λ (t : Token). t.kind) in omega arith)
+few_tokens bytes tokens s fewer short spelled =
+    let many : length (map (λ (t : Token). t.kind) tokens) ≡ length tokens = simp length-map in
+    let same = ap length spelled.spelled ∙ many in
+    omega arith
 
 -- what is found where the test is passed, and else behind it
 either : (b : Bool) (x y : Schema) (rest : Option Schema) → (if b then Some x else rest) ≡ Some y → is_schema x ≡ true → (rest ≡ Some y → is_schema y ≡ true) → is_schema y ≡ true

@@ -204,7 +204,7 @@ const QUERIES: [(&str, &str); 18] = [
     ),
     (
         "SELECT f.v, n FROM d, f WHERE k = gk AND n = 'x'",
-        "fact 1 tie 0.1 where [1:(='x')];[], 1.2 0.1 f.v n",
+        "fact 1 tie 0.1 where [1:(='x')];[], 1.2, 0.1 f.v n",
     ),
     // Two ties on one column of the fact.
     (
