@@ -24,6 +24,6 @@ pub slots-of-plan : SlotsOfPlan
 slots-of-plan plan slots groups h planned =
     let b = both (are_groups plan.measures groups) (list_all (λ (group : Row × List Part). length group.0 == length plan.keys) groups) planned in
     and_both (list_all (measure_within plan.measures) slots) (list_all (λ (group : Row × List Part). list_all (slot_within plan.measures group.0) slots) groups)
-      (all-imply (slot_of_plan plan) (measure_within plan.measures) (measure-slot plan) slots h)
-      (all-imply (λ (group : Row × List Part). length group.0 == length plan.keys) (λ (group : Row × List Part). list_all (slot_within plan.measures group.0) slots)
-      (λ group e. all-imply (slot_of_plan plan) (slot_within plan.measures group.0) (key-slot plan group.0 (eqb-true (length group.0) (length plan.keys) e)) slots h) groups b.1)
+    (all-imply (slot_of_plan plan) (measure_within plan.measures) (measure-slot plan) slots h)
+    (all-imply (λ (group : Row × List Part). length group.0 == length plan.keys) (λ (group : Row × List Part). list_all (slot_within plan.measures group.0) slots)
+    (λ group e. all-imply (slot_of_plan plan) (slot_within plan.measures group.0) (key-slot plan group.0 (eqb-true (length group.0) (length plan.keys) e)) slots h) groups b.1)
