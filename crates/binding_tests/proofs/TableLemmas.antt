@@ -11,7 +11,6 @@ use Rattle.star_lex.specs.declared.token.Token.{Token}
 use Rattle.star_sql.specs.declared.ast.Statement.{Statement}
 use Rattle.star_sql.specs.ParseResult.{IsSpelled, kinds_of}
 use Rattle.star_sql.specs.Spelling.{HasFewTokens}
-use Rattle.binding_tests.specs.declared.tables.Tables.{Tables}
 use Rattle.binding_tests.specs.Allowed.{are_allowed}
 
 -- a short text has few tokens
@@ -30,16 +29,16 @@ either true x y rest e good more = subst (λ (z : Schema). is_schema z ≡ true)
     there (Some z) = z
 either false x y rest e good more = more e
 
-pub tables_allowed : (t : Tables) → are_allowed t ≡ true → (name : List ℕ) (schema : Schema)
-    → (if bytes_eq name (codes "p") then Some t.p else (if bytes_eq name (codes "u") then Some t.u else (if bytes_eq name (codes "d") then Some t.d else (if bytes_eq name (codes "e") then Some t.e else (if bytes_eq name (codes "f") then Some t.f else None))))) ≡ Some schema
+pub tables_allowed : (p u d e f : Schema) → are_allowed p u d e f ≡ true → (name : List ℕ) (schema : Schema)
+    → (if bytes_eq name (codes "p") then Some p else (if bytes_eq name (codes "u") then Some u else (if bytes_eq name (codes "d") then Some d else (if bytes_eq name (codes "e") then Some e else (if bytes_eq name (codes "f") then Some f else None))))) ≡ Some schema
     → is_schema schema ≡ true
-tables_allowed t good name schema found =
-    let a = and_parts (is_schema t.p && is_schema t.u && is_schema t.d && is_schema t.e) (is_schema t.f) good in
-    let b = and_parts (is_schema t.p && is_schema t.u && is_schema t.d) (is_schema t.e) a.0 in
-    let c = and_parts (is_schema t.p && is_schema t.u) (is_schema t.d) b.0 in
-    let d = and_parts (is_schema t.p) (is_schema t.u) c.0 in
-    either (bytes_eq name (codes "p")) t.p schema _ found d.0 (λ e.
-    either (bytes_eq name (codes "u")) t.u schema _ e d.1 (λ f.
-    either (bytes_eq name (codes "d")) t.d schema _ f c.1 (λ g.
-    either (bytes_eq name (codes "e")) t.e schema _ g b.1 (λ h.
-    either (bytes_eq name (codes "f")) t.f schema None h a.1 (λ i. absurd (true≢false (ap is_some (sym i))))))))
+tables_allowed p u d e f good name schema found =
+    let q = and_parts (is_schema p && is_schema u && is_schema d && is_schema e) (is_schema f) good in
+    let r = and_parts (is_schema p && is_schema u && is_schema d) (is_schema e) q.0 in
+    let s = and_parts (is_schema p && is_schema u) (is_schema d) r.0 in
+    let t = and_parts (is_schema p) (is_schema u) s.0 in
+    either (bytes_eq name (codes "p")) p schema _ found t.0 (λ g.
+    either (bytes_eq name (codes "u")) u schema _ g t.1 (λ h.
+    either (bytes_eq name (codes "d")) d schema _ h s.1 (λ i.
+    either (bytes_eq name (codes "e")) e schema _ i r.1 (λ j.
+    either (bytes_eq name (codes "f")) f schema None j q.1 (λ k. absurd (true≢false (ap is_some (sym k))))))))

@@ -58,7 +58,7 @@ fn schema(alloc: Global, columns: &[(&str, Kind)], key: Option<u32>) -> Result<S
 
 // All tables; each has a schema that a table may have.
 fn all_tables(alloc: Global) -> Result<Tables, AllocError>
-    ensures { IfOk result (λ tables. are_allowed tables ≡ true) }
+    ensures { IfOk result (λ tables. are_allowed tables.p tables.u tables.d tables.e tables.f ≡ true) }
 {
     Ok(Tables {
         p: schema(alloc, &[("a", Kind::Int), ("b", Kind::Int)], None)?,

@@ -12,4 +12,5 @@ bind-requires-clause-few c =
     (few_tokens c.as_bytes.result.now c.in-Ok.list c.in-Ok-parse.statement c.in-Ok.ensures.few (omega (arith, same, most)) c.in-Ok-parse.ensures.spelled)
 
 pub bind-requires-clause-allowed : goal.bind-requires-clause-allowed
-bind-requires-clause-allowed c = tables_allowed c.in_ok-tables.tables c.in_ok-tables.ensures
+bind-requires-clause-allowed c =
+    tables_allowed c.in_ok-tables.tables.p c.in_ok-tables.tables.u c.in_ok-tables.tables.d c.in_ok-tables.tables.e c.in_ok-tables.tables.f c.in_ok-tables.ensures
