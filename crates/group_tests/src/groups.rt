@@ -6,7 +6,7 @@ ghost use Rattle.late_decode.specs.Bounds.{is_key_slot, measure_within, slot_wit
 ghost use Rattle.group_tests.specs.Taken.{taken, ArePartsOf, AreGroupsOf, AreGroups};
 
 use blink_base::{Answer, Field, List, Row, Value, Word};
-use late_decode::laws::{combinations_added, slots_stay_within};
+use late_decode::laws::{combinations_added, combinations_together, slots_stay_within};
 use late_decode::{Finish, Formula, Groups, LineOrder, Measure, Part, Pick, Slot};
 use std::alloc::{AllocError, Global};
 use std::test::Fail;
@@ -151,6 +151,7 @@ fn add_to(
     if sum.unsigned_abs() > SIZE * count as u128 {
         return Ok(None);
     }
+    combinations_together();
     groups.add(alloc, key, parts_of(alloc, count, sum, bound)?)?;
     combinations_added();
     slots_stay_within();

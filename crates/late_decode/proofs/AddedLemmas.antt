@@ -9,7 +9,7 @@ use Rattle.late_decode.specs.declared.plan.Measure.{Measure}
 use Rattle.late_decode.specs.declared.plan.Part.{Part}
 use Rattle.late_decode.specs.declared.plan.Slot.{Slot}
 use Rattle.late_decode.specs.Bounds.{counted_at, combinations_in, combinations_of, slot_within, measure_within}
-use Rattle.late_decode.specs.BoundLaws.{AddedAreDistinct, SlotsStayWithin, CombinationsAdded, CodedCombinationsAdded}
+use Rattle.late_decode.specs.BoundLaws.{AddedAreDistinct, SlotsStayWithin, CombinationsAdded, CodedCombinationsAdded, CombinationsTogether, CountsAdded}
 use Rattle.late_decode.specs.Groups.{Grouped, added}
 use Rattle.late_decode.specs.Parts.{no_part, merged_parts, no_parts}
 use Rattle.late_decode.proofs.EntryLemmas.{fold_parts, none_counted}
@@ -51,6 +51,11 @@ module _ {K : Type 0} (eq : K → K → Bool) (measures : List Measure) (key : K
   combinations_more groups =
       fold_more (counted_at (added eq measures key parts groups)) (counted_at groups) (combinations_of parts) 0 0 (omega arith)
       (λ k. let here = counted_added groups k in let within = fold_parts 0 parts k in omega (arith, here, within)) 0 (length measures)
+
+  combinations_with : (groups : Grouped K) → combinations_in measures ((key, parts) ∷ groups) ≤ combinations_in measures groups + combinations_of parts
+  combinations_with groups =
+      fold_more (counted_at ((key, parts) ∷ groups)) (counted_at groups) (combinations_of parts) 0 0 (omega arith)
+      (λ k. let within = fold_parts 0 parts k in rw (sum_by-cons (count_of k) (key, parts) groups) (omega (arith, within))) 0 (length measures)
 
   -- another key is there exactly where it was
   any_added : (a : K) → eq a key ≡ false → (groups : Grouped K) → list_any (eq a) (map (λ group. group.0) (added eq measures key parts groups)) ≡ list_any (eq a) (map (λ group. group.0) groups)
@@ -104,3 +109,9 @@ combinations_added measures key parts groups = combinations_more same_row measur
 
 pub coded_combinations_added : CodedCombinationsAdded
 coded_combinations_added same measures key parts groups = combinations_more same measures key parts groups
+
+pub combinations_together : CombinationsTogether
+combinations_together measures key parts groups = combinations_with same_row measures key parts groups
+
+pub counts_added : CountsAdded
+counts_added measures key parts groups k = counted_added same_row measures key parts groups k

@@ -11,7 +11,8 @@ use Rattle.blink_lists.specs.declared.limits.TheConstants.{MOST_ROWS}
 use Rattle.blink_lists.proofs.GroupLemmas.{both}
 use Rattle.late_decode.specs.declared.plan.Measure.{Measure}
 use Rattle.late_decode.specs.declared.plan.Part.{Part}
-use Rattle.late_decode.specs.Bounds.{are_parts, are_groups, counted_at, combinations_in, combinations_of}
+use Rattle.late_decode.specs.Bounds.{are_parts, are_groups, counted_at, combinations_in}
+use Rattle.late_decode.specs.BoundLaws.{CodedPartsWithin, CountsBounded}
 use Rattle.late_decode.specs.Groups.{Grouped, added}
 use Rattle.late_decode.specs.Parts.{no_part, merged_parts, no_parts}
 use Rattle.late_decode.specs.PartSteps.{AreFew}
@@ -101,25 +102,74 @@ module _ {K : Type 0} where
   group_parts measures (g ∷ es) zero own h e = let one : g.1 ≡ own = some-one e in subst (λ l. are_parts measures l ≡ true) one (both (are_parts measures g.1) (are_groups measures es) h).0
   group_parts measures (g ∷ es) (suc i) own h e = group_parts measures es i own (both (are_parts measures g.1) (are_groups measures es) h).1 e
 
-  -- a group and further parts count no more than all
-  pub group_few : (measures : List Measure) (es : Grouped K) (i : ℕ) (own parts : List Part) → are_groups measures es ≡ true → slice_get (values_of es) i ≡ Some own
-      → combinations_in measures es + combinations_of parts ≤ MOST_ROWS → AreFew own parts
-  group_few measures es i own parts h e few k = by (nat_lt k (length measures)) refl
-    where
-      more : (slice_index_or parts k no_part).count ≤ combinations_of parts
-      more = fold_parts 0 parts k
+  -- further parts of a measure count no more than the groups with them
+  pub more_within : (measures : List Measure) (es : Grouped K) (key : K) (parts : List Part) (k : ℕ) → k < length measures → combinations_in measures ((key, parts) ∷ es) ≤ MOST_ROWS
+      → (slice_index_or parts k no_part).count + counted_at es k ≤ MOST_ROWS
+  more_within measures es key parts k lt few =
+      let all = fold_numbers (counted_at ((key, parts) ∷ es)) 0 0 (length measures) k lt in
+      let same : counted_at ((key, parts) ∷ es) (0 + k) ≡ counted_at ((key, parts) ∷ es) k = ap (counted_at ((key, parts) ∷ es)) (omega arith) in
+      let split = sum_by-cons (λ (g : K × List Part). (slice_index_or g.1 k no_part).count) (key, parts) es in
+      omega (arith, all, same, split, few)
 
+  -- a group and further parts count no more than all
+  pub group_few : (measures : List Measure) (es : Grouped K) (i : ℕ) (own : List Part) (key : K) (parts : List Part) → are_groups measures es ≡ true → slice_get (values_of es) i ≡ Some own
+      → are_parts measures parts ≡ true → combinations_in measures ((key, parts) ∷ es) ≤ MOST_ROWS → AreFew own parts
+  group_few measures es i own key parts h e good few k = by (nat_lt k (length measures)) refl
+    where
       by : (b : Bool) → nat_lt k (length measures) ≡ b → (slice_index_or own k no_part).count + (slice_index_or parts k no_part).count ≤ MOST_ROWS
       by true t =
           let here = count_within es i k own e in
-          let all = fold_numbers (counted_at es) 0 0 (length measures) k (ltb-true k (length measures) t) in
-          let same : counted_at es (0 + k) ≡ counted_at es k = ap (counted_at es) (omega arith) in
-          omega (arith, here, all, same, more, few)
+          let more = more_within measures es key parts k (ltb-true k (length measures) t) few in
+          omega (arith, here, more)
       by false t =
+          let beyond = ltb-false k (length measures) t in
           let long = (parts_of measures own (group_parts measures es i own h e)).0 in
-          let none = none_beyond own k (omega (arith, long, ltb-false k (length measures) t)) in
-          omega (arith, none, more, few)
+          let none = none_beyond own k (omega (arith, long, beyond)) in
+          let many = (parts_of measures parts good).0 in
+          let no_more = none_beyond parts k (omega (arith, many, beyond)) in
+          omega (arith, none, no_more)
 
 -- further parts alone, too
-pub new_few : {K : Type 0} (measures : List Measure) (es : Grouped K) (parts : List Part) → combinations_in measures es + combinations_of parts ≤ MOST_ROWS → AreFew (no_parts measures) parts
-new_few measures es parts few k = let none = none_counted measures k in let more = fold_parts 0 parts k in omega (arith, none, more, few)
+pub new_few : {K : Type 0} (measures : List Measure) (es : Grouped K) (key : K) (parts : List Part) → are_parts measures parts ≡ true → combinations_in measures ((key, parts) ∷ es) ≤ MOST_ROWS
+    → AreFew (no_parts measures) parts
+new_few measures es key parts good few k = by (nat_lt k (length measures)) refl
+  where
+    by : (b : Bool) → nat_lt k (length measures) ≡ b → (slice_index_or (no_parts measures) k no_part).count + (slice_index_or parts k no_part).count ≤ MOST_ROWS
+    by true t =
+        let none = none_counted measures k in
+        let more = more_within measures es key parts k (ltb-true k (length measures) t) few in
+        omega (arith, none, more)
+    by false t =
+        let none = none_counted measures k in
+        let many = (parts_of measures parts good).0 in
+        let no_more = none_beyond parts k (omega (arith, many, ltb-false k (length measures) t)) in
+        omega (arith, none, no_more)
+
+pub coded_parts_within : CodedPartsWithin
+coded_parts_within measures groups at own good here = (group_parts measures groups at own good here, λ k. by k (nat_lt k (length measures)) refl)
+  where
+    by : (k : ℕ) (b : Bool) → nat_lt k (length measures) ≡ b → (slice_index_or own k no_part).count ≤ combinations_in measures groups
+    by k true t =
+        let some = count_within groups at k own here in
+        let all = fold_numbers (counted_at groups) 0 0 (length measures) k (ltb-true k (length measures) t) in
+        let same : counted_at groups (0 + k) ≡ counted_at groups k = ap (counted_at groups) (omega arith) in
+        omega (arith, some, all, same)
+    by k false t =
+        let long = (parts_of measures own (group_parts measures groups at own good here)).0 in
+        let none = none_beyond own k (omega (arith, long, ltb-false k (length measures) t)) in
+        omega (arith, none)
+
+-- no greatest number exceeds what none of them exceeds
+fold_most : (f : ℕ → ℕ) (most acc from count : ℕ) → acc ≤ most → ((k : ℕ) → k < count → f (from + k) ≤ most) → fold max acc (map f (numbers_from from count)) ≤ most
+fold_most f most acc from zero le each = le
+fold_most f most acc from (suc count) le each =
+    let here = each 0 (omega arith) in
+    let same : f (from + 0) ≡ f from = ap f (omega arith) in
+    fold_most f most (max acc (f from)) (from + 1) count (omega (arith, le, here, same))
+    (λ k lt. let there = each (suc k) (omega (arith, lt)) in let moved : f (from + suc k) ≡ f (from + 1 + k) = ap f (omega arith) in omega (arith, there, moved))
+
+pub counts_bounded : CountsBounded
+counts_bounded counted measures = (
+  λ k lt. let all = fold_numbers counted 0 0 measures k lt in let same : counted (0 + k) ≡ counted k = ap counted (omega arith) in omega (arith, all, same),
+  λ most each. fold_most counted most 0 0 measures (omega arith) (λ k lt. let here = each k lt in let same : counted (0 + k) ≡ counted k = ap counted (omega arith) in omega (arith, here, same)),
+)

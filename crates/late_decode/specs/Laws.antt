@@ -17,6 +17,12 @@ abbrev pub RowsGroup : Type 0
 RowsGroup = (measures : List Measure) (key : Row → Row) (picked : Row → Picked) (xs ys : List Row)
     → rows_added same_row measures key picked ys (grouped same_row measures key picked xs) ≡ grouped same_row measures key picked (xs ++ ys)
 
+-- The law that the same holds of rows of codes, by tuples of codes.
+abbrev pub CodedRowsGroup : Type 0
+CodedRowsGroup =
+    (same : List ℕ → List ℕ → Bool) → IsSame same → (measures : List Measure) (code : List ℕ → List ℕ) (picked : List ℕ → Picked) (xs ys : List (List ℕ))
+    → rows_added same measures code picked ys (grouped same measures code picked xs) ≡ grouped same measures code picked (xs ++ ys)
+
 -- The law that groups by codes, added at the keys that the codes stand for, give the groups of all rows, where codes of equal keys may differ.
 abbrev pub SpilledGroup : Type 0
 SpilledGroup =

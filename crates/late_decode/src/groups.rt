@@ -1,10 +1,10 @@
 // Groups of values.
-ghost use Rattle.std.specs.Prelude.{◌≡◌, ◌≤◌, ◌+◌, [], true, not, IfOk, OnOk, OnErr, IsTrue};
+ghost use Rattle.std.specs.Prelude.{◌≡◌, ◌≤◌, [], ◌∷◌, true, not, IfOk, OnOk, OnErr, IsTrue};
 ghost use Rattle.std.specs.List.{list_any};
 ghost use Rattle.blink_lists.specs.Rearrangement.{Rearranged};
 ghost use Rattle.blink_base.specs.Values.{same_row};
 ghost use Rattle.late_decode.specs.Groups.{added};
-ghost use Rattle.late_decode.specs.Bounds.{most_combinations, are_parts, combinations_in, combinations_of, is_key_slot, slots_within};
+ghost use Rattle.late_decode.specs.Bounds.{most_combinations, are_parts, combinations_in, is_key_slot, slots_within};
 ghost use Rattle.late_decode.specs.GroupLines.{lines_of, or_single};
 
 use crate::key::Key;
@@ -56,7 +56,7 @@ impl Groups {
     /// The parts are bounded, and there are at most 8,388,608 combinations in all. Source: ISO/IEC 9075 (set functions).
     pub fn add(&mut self, alloc: Global, key: Row, parts: List<Part>) -> Result<(), AllocError>
         requires parts { IsTrue (are_parts self.old.0 parts) }
-        requires few { combinations_in self.old.0 self.old.1 + combinations_of parts ≤ most_combinations }
+        requires few { combinations_in self.old.0 ((key, parts) ∷ self.old.1) ≤ most_combinations }
         ensures measures { self.new.0 ≡ self.old.0 }
         ensures ok { OnOk result (self.new.1 ≡ added same_row self.old.0 key parts self.old.1) }
         ensures err { OnErr result (self.new.1 ≡ self.old.1) }

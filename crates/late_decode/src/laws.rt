@@ -1,9 +1,9 @@
 //! Laws of groups that are merged, which their definitions meet.
 
-ghost use Rattle.late_decode.specs.Laws.{PartsMerge, RowsGroup, SpilledGroup};
+ghost use Rattle.late_decode.specs.Laws.{PartsMerge, RowsGroup, CodedRowsGroup, SpilledGroup};
 ghost use Rattle.late_decode.specs.Combinations.{CombinationsCounted};
 ghost use Rattle.late_decode.specs.Sums.{SumsBounded, FormulasBounded};
-ghost use Rattle.late_decode.specs.BoundLaws.{AddedAreGroups, AddedAreCoded, AddedAreDistinct, SlotsStayWithin, CombinationsAdded, CodedCombinationsAdded, RowsAreParts};
+ghost use Rattle.late_decode.specs.BoundLaws.{AddedAreGroups, AddedAreCoded, AddedAreDistinct, SlotsStayWithin, CombinationsAdded, CodedCombinationsAdded, CombinationsTogether, CountsAdded, CodedPartsWithin, CountsBounded, RowsAreParts};
 
 /// The part of some rows and of further rows is that of both, merged. Source: this project's own.
 pub fn parts_merge()
@@ -13,6 +13,11 @@ pub fn parts_merge()
 /// Rows added one by one to the groups of others give the groups of all. Source: this project's own.
 pub fn rows_group()
     ensures { RowsGroup }
+{}
+
+/// Rows of codes added one by one to the groups of others give the groups of all. Source: this project's own.
+pub fn coded_rows_group()
+    ensures { CodedRowsGroup }
 {}
 
 /// Groups by codes, added at the keys that the codes stand for, give the groups of all rows, where equal keys may have
@@ -69,4 +74,24 @@ pub fn combinations_added()
 /// Groups by codes have no more combinations than before and those of the parts that are added. Source: this project's own.
 pub fn coded_combinations_added()
     ensures { CodedCombinationsAdded }
+{}
+
+/// Parts beside groups make no more combinations than both have. Source: this project's own.
+pub fn combinations_together()
+    ensures { CombinationsTogether }
+{}
+
+/// Each measure counts no more than before and in the parts that are added. Source: this project's own.
+pub fn counts_added()
+    ensures { CountsAdded }
+{}
+
+/// The parts of a group by codes are as those of all groups, and count no more than they do. Source: this project's own.
+pub fn coded_parts_within()
+    ensures { CodedPartsWithin }
+{}
+
+/// The greatest of some counts is no less than each, and no more than what none exceeds. Source: this project's own.
+pub fn counts_bounded()
+    ensures { CountsBounded }
 {}

@@ -13,4 +13,5 @@ mod plan;
 mod source;
 
 pub use groups::Groups;
+pub use parts::no_parts;
 pub use plan::{Finish, Formula, GroupPlan, LineOrder, Measure, Part, Pick, Slot};

@@ -11,8 +11,8 @@ use blink_base::{List, Value};
 use std::alloc::{AllocError, Global};
 use std::cmp::Ordering;
 
-// The parts of a group without rows.
-pub(crate) fn no_parts(alloc: Global, measures: &[Measure]) -> Result<List<Part>, AllocError>
+/// The parts of a group without rows, one a measure. Source: this project's own.
+pub fn no_parts(alloc: Global, measures: &[Measure]) -> Result<List<Part>, AllocError>
     ensures { IfOk result (λ parts. parts ≡ no_parts measures.now) }
 {
     let mut parts = Vec::with_capacity(alloc, measures.len())?;

@@ -21,7 +21,8 @@ pub merge_parts-requires-clause-few : goal.merge_parts-requires-clause-few
 merge_parts-requires-clause-few c =
     let here = sym c.in-Some-get_index_mut.ensures.value in
     let few = rw (← c.self.view_is) at c.requires.few in
-    group_few c.self.inside.measures c.self.inside.groups.entries c.in-Some.at c.in-Some-get_index_mut.own.now c.args.parts c.self.invariant here few
+    let good = ap (λ v. are_parts v.0 c.args.parts) c.self.view_is ∙ c.requires.parts in
+    group_few c.self.inside.measures c.self.inside.groups.entries c.in-Some.at c.in-Some-get_index_mut.own.now c.args.key c.args.parts c.self.invariant here good few
 
 pub merge_parts-requires-in-None-clause-own : goal.merge_parts-requires-in-None-clause-own
 merge_parts-requires-in-None-clause-own c =
@@ -30,8 +31,9 @@ merge_parts-requires-in-None-clause-own c =
 pub merge_parts-requires-in-None-clause-few : goal.merge_parts-requires-in-None-clause-few
 merge_parts-requires-in-None-clause-few c =
     let few = rw (← c.self.view_is) at c.requires.few in
+    let good = ap (λ v. are_parts v.0 c.args.parts) c.self.view_is ∙ c.requires.parts in
     let own = c.in_ok-own-in-None.ensures ∙ ap no_parts c.as_slice-measures.ensures in
-    subst (λ l. AreFew l c.args.parts) (sym own) (new_few c.self.inside.measures c.self.inside.groups.entries c.args.parts few)
+    subst (λ l. AreFew l c.args.parts) (sym own) (new_few c.self.inside.measures c.self.inside.groups.entries c.args.key c.args.parts good few)
 
 pub invariant_of-self : goal.invariant_of-self
 invariant_of-self c =

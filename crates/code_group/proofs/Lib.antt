@@ -1,0 +1,14 @@
+pub mod BoundLemmas
+pub mod CellLemmas
+pub mod CellRowLemmas
+pub mod CountLemmas
+pub mod EntryLemmas
+pub mod GroupLemmas
+pub mod ImageGroupLemmas
+pub mod PageLemmas
+pub mod RestLemmas
+pub mod RowPartLemmas
+pub mod SelectedRowLemmas
+pub mod SlotLemmas
+pub mod SpillLemmas
+pub mod TupleLemmas

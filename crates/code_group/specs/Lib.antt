@@ -1,0 +1,12 @@
+pub mod CellRow
+pub mod Entries
+pub mod Formulas
+pub mod GroupLaws
+pub mod GroupRows
+pub mod PageGroups
+pub mod Plans
+pub mod RowParts
+pub mod Slots
+pub mod TupleGroups
+pub mod TupleHash
+pub mod Tuples
