@@ -1,0 +1,4 @@
+pub mod GroupAnswer
+pub mod KeySets
+pub mod Picks
+pub mod QueryPlan
