@@ -1,6 +1,12 @@
+pub mod CombinationOrderLemmas
+pub mod GroupAnswerLemmas
 pub mod GroupLineLemmas
+pub mod GroupRuleLemmas
+pub mod GroupedLineLemmas
 pub mod ItemLemmas
+pub mod JoinedRowLemmas
 pub mod KeyLemmas
 pub mod KeySetLemmas
 pub mod ListLemmas
+pub mod NamedLemmas
 pub mod PlainLineLemmas
