@@ -1,4 +1,5 @@
 pub mod CombinationOrderLemmas
+pub mod FactTestLemmas
 pub mod GroupAnswerLemmas
 pub mod GroupLineLemmas
 pub mod GroupRuleLemmas

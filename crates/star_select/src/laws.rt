@@ -1,5 +1,6 @@
 //! Laws of queries over images, which their definitions meet.
 
+ghost use Rattle.star_select.specs.CodeSelection.{SelectsByConjunctions};
 ghost use Rattle.star_select.specs.GroupAnswer.{AnswersByGroups, QueriesAreGrouped};
 ghost use Rattle.star_select.specs.KeySets.{KeysOnce, PicksByPlace, SelectsByKeys};
 
@@ -47,3 +48,9 @@ pub fn answers_by_groups()
     selects_by_keys();
     picks_by_place();
 }
+
+/// A row of the fact is selected exactly where it passes the tests of some conjunction, with all key sets among them and at
+/// most one test a column. Source: after Raman et al., ICDE 2008 (star joins on codes).
+pub fn selects_by_conjunctions()
+    ensures { SelectsByConjunctions }
+{}
