@@ -47,7 +47,7 @@ groups-of-map {X} {Y} plan f picked ys =
       (once_each same_row (map (λ y. key (f y)) ys)))
 
 -- a query has the tables of its statement
-names-as-many : (schemas : Schemas) (s : Select) → length (query_of schemas s).tables ≡ length s.tables
+pub names-as-many : (schemas : Schemas) (s : Select) → length (query_of schemas s).tables ≡ length s.tables
 unfolding query_of
 names-as-many schemas s = refl
 

@@ -29,7 +29,7 @@ use Rattle.star_bind.proofs.TieLemmas.{IsTie, same_value-back}
 use Rattle.star_bind.proofs.StarLemmas.{all-each}
 use Rattle.star_bind.proofs.AcceptanceLemmas.{Accepted, accepted, scope_accepted}
 use Rattle.star_bind.proofs.FactRowLemmas.{query-is, tied}
-use Rattle.star_select.proofs.ListLemmas.{some-same, none-some, zip-place}
+use Rattle.star_select.proofs.ListLemmas.{some-same, none-some, zip-place, all-place}
 use Rattle.blink_lists.proofs.BoolLemmas.{all-true}
 
 -- some of distinct keys are distinct
@@ -60,11 +60,6 @@ distinct-some {X = X} key own (x ∷ xs) h =
 entry-keys : (key : ℕ) (wanted : List ℕ) (rows : List Row) → keys_of (map (entry_of key wanted) rows) ≡ map (λ row. value_in row key) rows
 entry-keys key wanted [] = refl
 entry-keys key wanted (row ∷ rows) = ap (λ l. value_in row key ∷ l) (entry-keys key wanted rows)
-
-all-place : {X : Type 0} (p : X → Bool) (xs : List X) (j : ℕ) (x : X) → list_all p xs ≡ true → slice_get xs j ≡ Some x → p x ≡ true
-all-place p [] j x h e = absurd (none-some x e)
-all-place p (y ∷ ys) zero x h e = subst (λ z. p z ≡ true) (some-same y x e) (and_parts (p y) (list_all p ys) h).0
-all-place p (y ∷ ys) (suc j) x h e = all-place p ys j x (and_parts (p y) (list_all p ys) h).1 e
 
 module _ (scope : Scope) (s : Select) (fact : ℕ) (a : Accepted scope s fact) (tables : List (List Row)) (sized : length tables ≡ length scope) (held : list_all may_hold (zip scope tables) ≡ true) where
   abbrev query : Query

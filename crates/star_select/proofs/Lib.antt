@@ -1,9 +1,11 @@
+pub mod CodeSelectionLemmas
 pub mod CombinationOrderLemmas
 pub mod FactTestLemmas
 pub mod GroupAnswerLemmas
 pub mod GroupLineLemmas
 pub mod GroupRuleLemmas
 pub mod GroupedLineLemmas
+pub mod ImageAnswerLemmas
 pub mod ItemLemmas
 pub mod JoinedRowLemmas
 pub mod KeyLemmas

@@ -150,3 +150,9 @@ all-self e f self (x ∷ xs) =
     later : (a b : Bool) → b ≡ true → (a || b) ≡ true
     later true b k = refl
     later false b k = k
+
+-- an element at its place
+pub all-place : {X : Type 0} (p : X → Bool) (xs : List X) (j : ℕ) (x : X) → list_all p xs ≡ true → slice_get xs j ≡ Some x → p x ≡ true
+all-place p [] j x h e = absurd (none-some x e)
+all-place p (y ∷ ys) zero x h e = subst (λ z. p z ≡ true) (some-same y x e) (both (p y) (list_all p ys) h).0
+all-place p (y ∷ ys) (suc j) x h e = all-place p ys j x (both (p y) (list_all p ys) h).1 e

@@ -1,10 +1,13 @@
 //! Laws of queries over images, which their definitions meet.
 
-ghost use Rattle.star_select.specs.CodeSelection.{SelectsByConjunctions};
+ghost use Rattle.star_select.specs.CodeSelection.{SelectsByCodes, SelectsByConjunctions};
 ghost use Rattle.star_select.specs.GroupAnswer.{AnswersByGroups, QueriesAreGrouped};
+ghost use Rattle.star_select.specs.ImageAnswer.{AnswersByCodes, FactNamed, ImagesMayBeAsked};
 ghost use Rattle.star_select.specs.KeySets.{KeysOnce, PicksByPlace, SelectsByKeys};
 
 use blink_base::laws::{lines_in_any_order, rows_are_told_apart, totals_in_any_order};
+use cell_scan::laws::sets_are_tests;
+use code_group::laws::groups_of_an_image;
 use code_join::laws::entries_of_keys;
 use star_bind::laws::{answers_as_bound, joins_by_keys, queries_have_shape};
 
@@ -54,3 +57,40 @@ pub fn answers_by_groups()
 pub fn selects_by_conjunctions()
     ensures { SelectsByConjunctions }
 {}
+
+/// The codes of a row of a cell of the fact are selected exactly where the row that they stand for is. Source: after Raman et
+/// al., ICDE 2008 (predicates on order-preserving codes).
+pub fn selects_by_codes()
+    ensures { SelectsByCodes }
+{
+    sets_are_tests();
+    selects_by_conjunctions();
+}
+
+/// The rows that valid images stand for are ones that their tables may hold. Source: this project's own.
+pub fn images_may_be_asked()
+    ensures { ImagesMayBeAsked }
+{
+    queries_have_shape();
+}
+
+/// The columns of conjunctions and of ties that a query names of its fact are columns of the fact's image, and there is a key
+/// map per tie. Source: this project's own.
+pub fn fact_named()
+    ensures { FactNamed }
+{
+    queries_have_shape();
+}
+
+/// The answer to a query over the rows that valid images stand for is that of the groups that the image of its fact gives:
+/// rows chosen by sets of codes, grouped by codes and by places of keys, cell by cell, decoded late, and merged with the rows
+/// that are in no cell. Source: ISO/IEC 9075 (queries); after Raman et al., ICDE 2008 (queries over a frequency partition).
+pub fn answers_by_codes()
+    ensures { AnswersByCodes }
+{
+    answers_by_groups();
+    selects_by_codes();
+    groups_of_an_image();
+    images_may_be_asked();
+    fact_named();
+}
