@@ -1,4 +1,6 @@
 pub mod CodeSelection
+pub mod Decodes
+pub mod Examples
 pub mod GroupAnswer
 pub mod ImageAnswer
 pub mod KeySets

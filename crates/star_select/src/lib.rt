@@ -3,4 +3,5 @@
 //! There is no code here but empty functions whose contracts are laws.
 #![tactic(auto)]
 
+pub mod examples;
 pub mod laws;
