@@ -47,7 +47,7 @@ no-parts (m ∷ measures) = λ i. one m i ∷ no-parts measures i
     one (measure.Least a) = refl
     one (measure.Greatest a) = refl
 
-none-total : (items : List BoundItem) → list_any is_total items ≡ false → list_all (λ i. not (is_total i)) items ≡ true
+pub none-total : (items : List BoundItem) → list_any is_total items ≡ false → list_all (λ i. not (is_total i)) items ≡ true
 none-total [] h = refl
 none-total (i ∷ is) h = by (is_total i) h (none-total is)
   where

@@ -1,4 +1,5 @@
 pub mod CodeSelectionLemmas
+pub mod CodeSetLemmas
 pub mod CombinationOrderLemmas
 pub mod FactTestLemmas
 pub mod GroupAnswerLemmas
@@ -13,3 +14,4 @@ pub mod KeySetLemmas
 pub mod ListLemmas
 pub mod NamedLemmas
 pub mod PlainLineLemmas
+pub mod PlanLemmas

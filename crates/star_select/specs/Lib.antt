@@ -5,4 +5,5 @@ pub mod GroupAnswer
 pub mod ImageAnswer
 pub mod KeySets
 pub mod Picks
+pub mod Preconditions
 pub mod QueryPlan

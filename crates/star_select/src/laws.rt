@@ -4,6 +4,7 @@ ghost use Rattle.star_select.specs.CodeSelection.{SelectsByCodes, SelectsByConju
 ghost use Rattle.star_select.specs.GroupAnswer.{AnswersByGroups, QueriesAreGrouped};
 ghost use Rattle.star_select.specs.ImageAnswer.{AnswersByCodes, FactNamed, ImagesMayBeAsked};
 ghost use Rattle.star_select.specs.KeySets.{KeysOnce, PicksByPlace, SelectsByKeys};
+ghost use Rattle.star_select.specs.Preconditions.{EmptySetsPassNone, SetsMeet};
 
 use blink_base::laws::{lines_in_any_order, rows_are_told_apart, totals_in_any_order};
 use cell_scan::laws::sets_are_tests;
@@ -94,3 +95,13 @@ pub fn answers_by_codes()
     images_may_be_asked();
     fact_named();
 }
+
+/// The codes of a class that are in two sets are those whose values pass both tests. Source: this project's own.
+pub fn sets_meet()
+    ensures { SetsMeet }
+{}
+
+/// No row of a cell passes sets of codes of which one is empty. Source: this project's own.
+pub fn empty_sets_pass_none()
+    ensures { EmptySetsPassNone }
+{}
