@@ -41,12 +41,6 @@ sets-meet : (p q : Value → Bool) (from : ℕ) (values : List Value) → in_bot
 sets-meet p q from [] = refl
 sets-meet p q from (v ∷ values) = by (p v) (q v) (sets-meet p q (from + 1) values)
   where
-    own : List ℕ
-    own = codes_from p (from + 1) values
-
-    others : List ℕ
-    others = codes_from q (from + 1) values
-
     by : (b c : Bool) → in_both (codes_from p (from + 1) values) (codes_from q (from + 1) values) ≡ codes_from (λ v. p v && q v) (from + 1) values
         → in_both (map (λ r. r.0) (cond b ((from, v) ∷ filter (λ r. p r.1) (numbered_from (from + 1) values)) (filter (λ r. p r.1) (numbered_from (from + 1) values))))
           (map (λ r. r.0) (cond c ((from, v) ∷ filter (λ r. q r.1) (numbered_from (from + 1) values)) (filter (λ r. q r.1) (numbered_from (from + 1) values))))

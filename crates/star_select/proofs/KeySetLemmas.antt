@@ -34,6 +34,7 @@ use Rattle.star_bind.proofs.TieLemmas.{Each, IsTie}
 use Rattle.star_bind.proofs.StarLemmas.{all-each, IsPart}
 use Rattle.star_bind.proofs.AcceptanceLemmas.{Accepted, accepted, scope_accepted, parts_from}
 use Rattle.star_bind.proofs.FactRowLemmas.{query-is, tied}
+use Rattle.star_select.proofs.NamedLemmas.{is_among}
 use Rattle.star_select.proofs.ListLemmas.{some-same, none-some, each-both, each-place, zip-length, zip-place, zip-maps, found-passes, any-found, some-map, any-numbered, there-some, there-place, any-once}
 
 module _ (scope : Scope) (s : Select) (fact : ℕ) (a : Accepted scope s fact) (tables : List (List Row)) (sized : length tables ≡ length scope) (held : list_all may_hold (zip scope tables) ≡ true) where
@@ -46,7 +47,7 @@ module _ (scope : Scope) (s : Select) (fact : ℕ) (a : Accepted scope s fact) (
   abbrev own : ℕ → Row → Bool
   own = is_wanted (query_in scope s fact)
 
-  parts : Each (IsPart scope fact ties own) (numbered (zip scope tables))
+  pub parts : Each (IsPart scope fact ties own) (numbered (zip scope tables))
   parts = parts_from scope fact ties own (tied scope s fact a) 0 scope tables (λ j. ap (slice_get scope) (omega arith)) a.counted held
 
   -- each part has the rows of its table
@@ -129,27 +130,6 @@ module _ (scope : Scope) (s : Select) (fact : ℕ) (a : Accepted scope s fact) (
 
         within : (n : ℕ) → n < length scope → n < length (zip scope tables)
         within n l = subst (λ m. n < m) (sym (zip-length scope tables sized)) l
-
-    -- a column of a dimension that is named is among its wanted ones
-    is_among : (r : ColumnRef) (rs : List ColumnRef) → list_any (same_ref r) rs ≡ true → list_any (λ c. c == r.column) (map (λ q. q.column) (filter (λ q. q.table == r.table) rs)) ≡ true
-    is_among r [] e = e
-    is_among r (q ∷ rs) e = by (r.table == q.table) refl (r.column == q.column) refl e (is_among r rs)
-      where
-        wider : (b : Bool) → list_any (λ c. c == r.column) (map (λ q. q.column) (filter (λ q. q.table == r.table) rs)) ≡ true
-            → list_any (λ c. c == r.column) (map (λ q. q.column) (cond b (q ∷ filter (λ q. q.table == r.table) rs) (filter (λ q. q.table == r.table) rs))) ≡ true
-        wider true h = ap (λ b. (q.column == r.column) || b) h ∙ or-true (q.column == r.column)
-        wider false h = h
-
-        by : (b : Bool) → (r.table == q.table) ≡ b → (c : Bool) → (r.column == q.column) ≡ c → ((b && c) || list_any (same_ref r) rs) ≡ true
-            → (list_any (same_ref r) rs ≡ true → list_any (λ c. c == r.column) (map (λ q. q.column) (filter (λ q. q.table == r.table) rs)) ≡ true)
-            → list_any (λ c. c == r.column) (map (λ q. q.column) (cond (q.table == r.table) (q ∷ filter (λ q. q.table == r.table) rs) (filter (λ q. q.table == r.table) rs))) ≡ true
-        by true f true g e more =
-            let same_table : (q.table == r.table) ≡ true = eq-eqb q.table r.table (sym (eqb-true r.table q.table f)) in
-            let same_column : (q.column == r.column) ≡ true = eq-eqb q.column r.column (sym (eqb-true r.column q.column g)) in
-            ap (λ b. list_any (λ c. c == r.column) (map (λ q. q.column) (cond b (q ∷ filter (λ q. q.table == r.table) rs) (filter (λ q. q.table == r.table) rs)))) same_table
-            ∙ ap (λ b. b || list_any (λ c. c == r.column) (map (λ q. q.column) (filter (λ q. q.table == r.table) rs))) same_column
-        by true f false g e more = wider (q.table == r.table) (more e)
-        by false f c g e more = wider (q.table == r.table) (more e)
 
     pub picks : (rows : Combination) → joined_row query scope tables row ≡ Some rows → (r : ColumnRef) → list_any (same_ref r) (named_refs query) ≡ true → r.table < length tables
         → picked_beside (tied_columns query) (key_maps query scope tables) row (pick_of query r) ≡ ref_value r rows

@@ -1,6 +1,7 @@
 pub mod CodeSelectionLemmas
 pub mod CodeSetLemmas
 pub mod CombinationOrderLemmas
+pub mod DimensionLemmas
 pub mod FactTestLemmas
 pub mod GroupAnswerLemmas
 pub mod GroupLineLemmas

@@ -1,15 +1,15 @@
 -- The columns that items and groups of a query name are there.
-use Rattle.std.proofs.Common.{◌≡◌, ◌<◌, ◌==◌, ℕ, Bool, true, false, ◌&&◌, ◌||◌, List, [], ◌∷◌, ◌++◌, flat_map, length, slice_get, Option, Some, None, refl, sym, ap, ◌∙◌, true≢false}
+use Rattle.std.proofs.Common.{◌≡◌, ◌<◌, ◌==◌, ℕ, Bool, true, false, ◌&&◌, ◌||◌, List, [], ◌∷◌, ◌++◌, map, filter, flat_map, length, slice_get, Option, Some, None, cond, refl, sym, ap, ◌∙◌, true≢false}
 use Rattle.std.specs.List.{list_any, list_all}
 use Rattle.std.specs.Option.{option_and_then, option_map_or, is_some}
-use Rattle.std.proofs.lemmas.Bool.{eq-eqb}
+use Rattle.std.proofs.lemmas.Bool.{eqb-true, eq-eqb}
 use Rattle.std.proofs.lemmas.List.Folds.{list_all-append}
 use Rattle.std.proofs.lemmas.Option.{slice_get_within}
 use Rattle.blink_base.specs.declared.schema.Column.{Column}
 use Rattle.blink_base.specs.declared.value.Kind.TheVariants as kind
 use Rattle.blink_base.specs.Values.{same_kind}
 use Rattle.blink_lists.proofs.AllLemmas.{all-flat_map}
-use Rattle.blink_lists.proofs.BoolLemmas.{all_both}
+use Rattle.blink_lists.proofs.BoolLemmas.{all_both, or-true}
 use Rattle.blink_lists.proofs.GroupLemmas.{both, and_both, all-imply}
 use Rattle.star_meaning.specs.Names.{Scope, FromEntry, column_at}
 use Rattle.star_bind.specs.declared.query.ColumnRef.{ColumnRef}
@@ -21,6 +21,27 @@ use Rattle.star_bind.specs.declared.query.Query.{Query}
 use Rattle.star_bind.specs.QueryShape.{is_ref, is_number_ref, is_number_expr, is_item, HasShape}
 use Rattle.star_select.specs.Picks.{expr_refs, item_refs, named_refs, same_ref}
 use Rattle.star_select.proofs.ListLemmas.{all-self}
+
+-- a column of a dimension that is named is among its wanted ones
+pub is_among : (r : ColumnRef) (rs : List ColumnRef) → list_any (same_ref r) rs ≡ true → list_any (λ c. c == r.column) (map (λ q. q.column) (filter (λ q. q.table == r.table) rs)) ≡ true
+is_among r [] e = e
+is_among r (q ∷ rs) e = by (r.table == q.table) refl (r.column == q.column) refl e (is_among r rs)
+  where
+    wider : (b : Bool) → list_any (λ c. c == r.column) (map (λ q. q.column) (filter (λ q. q.table == r.table) rs)) ≡ true
+        → list_any (λ c. c == r.column) (map (λ q. q.column) (cond b (q ∷ filter (λ q. q.table == r.table) rs) (filter (λ q. q.table == r.table) rs))) ≡ true
+    wider true h = ap (λ b. (q.column == r.column) || b) h ∙ or-true (q.column == r.column)
+    wider false h = h
+
+    by : (b : Bool) → (r.table == q.table) ≡ b → (c : Bool) → (r.column == q.column) ≡ c → ((b && c) || list_any (same_ref r) rs) ≡ true
+        → (list_any (same_ref r) rs ≡ true → list_any (λ c. c == r.column) (map (λ q. q.column) (filter (λ q. q.table == r.table) rs)) ≡ true)
+        → list_any (λ c. c == r.column) (map (λ q. q.column) (cond (q.table == r.table) (q ∷ filter (λ q. q.table == r.table) rs) (filter (λ q. q.table == r.table) rs))) ≡ true
+    by true f true g e more =
+        let same_table : (q.table == r.table) ≡ true = eq-eqb q.table r.table (sym (eqb-true r.table q.table f)) in
+        let same_column : (q.column == r.column) ≡ true = eq-eqb q.column r.column (sym (eqb-true r.column q.column g)) in
+        ap (λ b. list_any (λ c. c == r.column) (map (λ q. q.column) (cond b (q ∷ filter (λ q. q.table == r.table) rs) (filter (λ q. q.table == r.table) rs)))) same_table
+        ∙ ap (λ b. b || list_any (λ c. c == r.column) (map (λ q. q.column) (filter (λ q. q.table == r.table) rs))) same_column
+    by true f false g e more = wider (q.table == r.table) (more e)
+    by false f c g e more = wider (q.table == r.table) (more e)
 
 number-there : (scope : Scope) (r : ColumnRef) → is_number_ref scope r ≡ true → is_ref scope r ≡ true
 number-there scope r h = by (column_at scope (record { table = r.table; column = r.column })) h
