@@ -47,7 +47,7 @@ found-of {X} q p (y ∷ ys) x h e = let b = both (q y) (list_all q ys) h in by (
     by false k f more = more f
 
 -- a column that is there is below the number of its table's columns
-column-within : (scope : Scope) (r : ColumnRef) (entry : FromEntry) → is_ref scope r ≡ true → slice_get scope r.table ≡ Some entry → r.column < length entry.schema.columns
+pub column-within : (scope : Scope) (r : ColumnRef) (entry : FromEntry) → is_ref scope r ≡ true → slice_get scope r.table ≡ Some entry → r.column < length entry.schema.columns
 column-within scope r entry h here = by (slice_get entry.schema.columns r.column) refl (sym (ap (λ (o : Option FromEntry). is_some (option_and_then (λ e. slice_get e.schema.columns r.column) o)) here) ∙ h)
   where
     by : (o : Option Column) → slice_get entry.schema.columns r.column ≡ o → is_some o ≡ true → r.column < length entry.schema.columns

@@ -56,7 +56,7 @@ none-total (i ∷ is) h = by (is_total i) h (none-total is)
     by false k r = r k
 
 -- without grouping columns only aggregates may stand
-all-total : (items : List BoundItem) → list_all (stands_in []) items ≡ true → list_all is_total items ≡ true
+pub all-total : (items : List BoundItem) → list_all (stands_in []) items ≡ true → list_all is_total items ≡ true
 all-total [] h = refl
 all-total (i ∷ is) h = let b = both (stands_in [] i) (list_all (stands_in []) is) h in and_both (is_total i) (list_all is_total is) (alone i b.0) (all-total is b.1)
   where

@@ -85,7 +85,7 @@ images_may_be_asked shaped schemas s images has = record {
 -- ---- what a query names of its fact
 
 -- a schema by its place
-entry-same : (scope : Scope) (images : List TableImage) → map (λ image. image.schema) images ≡ map (λ entry. entry.schema) scope → (k : ℕ) (image : TableImage) → slice_get images k ≡ Some image
+pub entry-same : (scope : Scope) (images : List TableImage) → map (λ image. image.schema) images ≡ map (λ entry. entry.schema) scope → (k : ℕ) (image : TableImage) → slice_get images k ≡ Some image
     → (entry : FromEntry) × (slice_get scope k ≡ Some entry) × (image.schema ≡ entry.schema)
 entry-same scope [] same k image here = absurd (none-some image here)
 entry-same [] (x ∷ images) same k image here = absurd (let l = ap (λ (l : List Schema). length l) same in omega (arith, l))
@@ -93,7 +93,7 @@ entry-same (entry ∷ scope) (x ∷ images) same zero image here =
     (entry, refl, ap (λ (y : TableImage). y.schema) (sym (some-same x image here)) ∙ ap (first_schema x.schema) same)
 entry-same (entry ∷ scope) (x ∷ images) same (suc k) image here = entry-same scope images (ap other_schemas same) k image here
 
-columns-as-many : (image : TableImage) → is_valid image ≡ true → length image.columns ≡ length image.schema.columns
+pub columns-as-many : (image : TableImage) → is_valid image ≡ true → length image.columns ≡ length image.schema.columns
 columns-as-many image valid =
     let a = both (length image.columns == length image.schema.columns && list_all (λ p. are_column_classes p.0 p.1) (zip image.schema.columns image.columns)) _ (valid_parts image valid).divided in
     eqb-true (length image.columns) (length image.schema.columns) (both (length image.columns == length image.schema.columns) (list_all (λ p. are_column_classes p.0 p.1) (zip image.schema.columns image.columns)) a.0).0

@@ -3,6 +3,7 @@ pub mod CodeSetLemmas
 pub mod CombinationOrderLemmas
 pub mod DimensionLemmas
 pub mod FactTestLemmas
+pub mod FinishLemmas
 pub mod GroupAnswerLemmas
 pub mod GroupLineLemmas
 pub mod GroupRuleLemmas
@@ -16,3 +17,5 @@ pub mod ListLemmas
 pub mod NamedLemmas
 pub mod PlainLineLemmas
 pub mod PlanLemmas
+pub mod PreconditionLemmas
+pub mod SumLemmas

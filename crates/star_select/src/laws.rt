@@ -4,7 +4,7 @@ ghost use Rattle.star_select.specs.CodeSelection.{SelectsByCodes, SelectsByConju
 ghost use Rattle.star_select.specs.GroupAnswer.{AnswersByGroups, QueriesAreGrouped};
 ghost use Rattle.star_select.specs.ImageAnswer.{AnswersByCodes, FactNamed, ImagesMayBeAsked};
 ghost use Rattle.star_select.specs.KeySets.{KeysOnce, PicksByPlace, SelectsByKeys};
-ghost use Rattle.star_select.specs.Preconditions.{EmptySetsPassNone, SetsMeet};
+ghost use Rattle.star_select.specs.Preconditions.{EmptySetsPassNone, FactTestsApart, GroupsCanFinish, PlansAreThere, SetsMeet, SumsAreNumbers, TiesHaveDimensions};
 
 use blink_base::laws::{lines_in_any_order, rows_are_told_apart, totals_in_any_order};
 use cell_scan::laws::sets_are_tests;
@@ -105,3 +105,44 @@ pub fn sets_meet()
 pub fn empty_sets_pass_none()
     ensures { EmptySetsPassNone }
 {}
+
+/// All picks of a query's plan are there: columns of its fact's image, and wanted values of its key maps. Source: this
+/// project's own.
+pub fn plans_are_there()
+    ensures { PlansAreThere }
+{
+    queries_have_shape();
+    images_may_be_asked();
+}
+
+/// What is summed of a selected row of the fact is good whole numbers. Source: ISO/IEC 9075 (set functions).
+pub fn sums_are_numbers()
+    ensures { SumsAreNumbers }
+{
+    queries_have_shape();
+    images_may_be_asked();
+    selects_by_keys();
+    picks_by_place();
+}
+
+/// Each tie leads to an image that has a key, which the key map is of, and the wanted columns. Source: this project's own.
+pub fn ties_have_dimensions()
+    ensures { TiesHaveDimensions }
+{
+    queries_have_shape();
+}
+
+/// A conjunction of the fact with all key sets tests no column twice: a test and a key set of one column are one. Source: this
+/// project's own.
+pub fn fact_tests_apart()
+    ensures { FactTestsApart }
+{
+    queries_have_shape();
+}
+
+/// Groups by a query's plan can be finished as it asks. Source: this project's own.
+pub fn groups_can_finish()
+    ensures { GroupsCanFinish }
+{
+    queries_are_grouped();
+}
