@@ -8,6 +8,7 @@ use Rattle.blink_lists.proofs.GroupLemmas.{both, and_both}
 use Rattle.blink_lists.proofs.ProductLemmas.{filter-map}
 use Rattle.star_bind.specs.declared.query.Conjunction.{Conjunction}
 use Rattle.star_bind.specs.declared.query.Query.{Query}
+use Rattle.star_bind.specs.Conjunctions.{passes}
 use Rattle.star_bind.specs.Joins.{filters_at, is_wanted}
 use Rattle.order_codes.specs.Dictionary.{Classes}
 use Rattle.cell_layout.specs.Image.{TableImage, CellImage, decoded_row, cell_rows, rows_of}
@@ -17,11 +18,12 @@ use Rattle.cell_scan.specs.ValueTests.{passes_tests, sets_in, SetsAreTests}
 use Rattle.code_join.specs.Keys.{Keyed}
 use Rattle.code_group.specs.Entries.{has_keys}
 use Rattle.code_group.specs.GroupLaws.{is_joined, are_joined, selected_in}
-use Rattle.star_select.specs.CodeSelection.{fact_tests, codes_selected, fact_cells, fact_rest, is_of_columns, NamesFact, SelectsByConjunctions, SelectsByCodes}
+use Rattle.star_select.specs.CodeSelection.{conjunction_tests, fact_tests, codes_selected, codes_wanted, fact_cells, fact_rest, is_of_columns, NamesFact, SelectsByConjunctions, SelectsByCodes, WantedByCodes}
 use Rattle.star_select.specs.KeySets.{is_selected}
 use Rattle.star_select.specs.Picks.{tied_columns}
 use Rattle.star_select.specs.QueryPlan.{plan_of}
-use Rattle.star_select.proofs.FactTestLemmas.{tests-named}
+use Rattle.star_select.proofs.FactTestLemmas.{tests-named, conjunction-named, conjunction-passes}
+use Rattle.star_select.proofs.ListLemmas.{flat-of-map}
 
 any-where : {X : Type 0} (w p q : X → Bool) → ((x : X) → w x ≡ true → p x ≡ q x) → (xs : List X) → list_all w xs ≡ true → list_any p xs ≡ list_any q xs
 any-where w p q same [] h = refl
@@ -58,25 +60,35 @@ cell-parts columns cell h =
     let c = both (length cell.classes == length columns) (list_all (λ p. nat_lt p.1 (length p.0)) (zip columns cell.classes)) b.0 in
     (eqb-true (length cell.classes) (length columns) c.0, a.1)
 
+pub wanted_by_codes : SetsAreTests → WantedByCodes
+wanted_by_codes sets columns classes codes query table full good named =
+    let row : Row = decoded_row columns classes codes in
+    any-where (is_of_columns (length columns)) (λ c. passes_all (sets_in columns classes (conjunction_tests c)) codes) (passes row)
+    (λ c own. sets columns classes codes (conjunction_tests c) full good (conjunction-named (length columns) c own) ∙ conjunction-passes row c) (filters_at query table) named
+
+-- rows of cells that pass, by a test of their codes
+module _ (image : TableImage) (p : Row → Bool) (q : CellImage → List ℕ → Bool)
+    (same : (cell : CellImage) (codes : List ℕ) → length cell.classes ≡ length image.columns → are_codes image.columns cell.classes codes ≡ true → q cell codes ≡ p (decoded_row image.columns cell.classes codes)) where
+  pub cells-passing : (cells : List CellImage) → list_all (is_cell image.columns) cells ≡ true
+      → filter p (flat_map (cell_rows image) cells) ≡ flat_map (λ cell. map (decoded_row image.columns cell.classes) (filter (q cell) cell.rows)) cells
+  cells-passing [] h = refl
+  cells-passing (cell ∷ cells) h =
+      let b = both (is_cell image.columns cell) (list_all (is_cell image.columns) cells) h in
+      let parts = cell-parts image.columns cell b.0 in
+      let one : filter p (cell_rows image cell) ≡ map (decoded_row image.columns cell.classes) (filter (q cell) cell.rows) =
+          filter-map p (decoded_row image.columns cell.classes) cell.rows
+          ∙ ap (map (decoded_row image.columns cell.classes)) (filter-where (are_codes image.columns cell.classes) (λ codes. p (decoded_row image.columns cell.classes codes)) (q cell) (λ codes g. sym (same cell codes parts.0 g)) cell.rows parts.1) in
+      filter-append p (cell_rows image cell) (flat_map (cell_rows image) cells) ∙ (λ i. one i ++ cells-passing cells b.1 i)
+
 module _ (by_codes : SelectsByCodes) (image : TableImage) (query : Query) (keys : List Keyed) (names : NamesFact (length image.columns) query keys) where
   -- a cell with its selected rows
   abbrev chosen : CellImage → CellImage × List (List ℕ)
   chosen cell = (cell, filter (codes_selected image.columns cell.classes query keys) cell.rows)
 
-  cell-selected : (cell : CellImage) → is_cell image.columns cell ≡ true → filter (is_selected query keys) (cell_rows image cell) ≡ selected_in image (chosen cell)
-  cell-selected cell h =
-      let p = cell-parts image.columns cell h in
-      filter-map (is_selected query keys) (decoded_row image.columns cell.classes) cell.rows
-      ∙ ap (map (decoded_row image.columns cell.classes))
-        (filter-where (are_codes image.columns cell.classes) (λ codes. is_selected query keys (decoded_row image.columns cell.classes codes)) (codes_selected image.columns cell.classes query keys)
-          (λ codes g. sym (by_codes image.columns cell.classes codes query keys p.0 g names)) cell.rows p.1)
-
   cells-selected : (cells : List CellImage) → list_all (is_cell image.columns) cells ≡ true → filter (is_selected query keys) (flat_map (cell_rows image) cells) ≡ flat_map (selected_in image) (map chosen cells)
-  cells-selected [] h = refl
-  cells-selected (cell ∷ cells) h =
-      let b = both (is_cell image.columns cell) (list_all (is_cell image.columns) cells) h in
-      filter-append (is_selected query keys) (cell_rows image cell) (flat_map (cell_rows image) cells)
-      ∙ (λ i. cell-selected cell b.0 i ++ cells-selected cells b.1 i)
+  cells-selected cells h =
+      cells-passing image (is_selected query keys) (λ cell. codes_selected image.columns cell.classes query keys) (λ cell codes full good. by_codes image.columns cell.classes codes query keys full good names) cells h
+      ∙ sym (flat-of-map (selected_in image) chosen cells)
 
   -- the selected rows of an image are those of its cells, and then of rest
   pub rows-selected : list_all (is_cell image.columns) image.cells ≡ true → filter (is_selected query keys) (rows_of image) ≡ flat_map (selected_in image) (fact_cells image query keys) ++ fact_rest image query keys

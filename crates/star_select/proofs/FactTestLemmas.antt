@@ -118,10 +118,17 @@ in-zip q [] keys h = refl
 in-zip q (k ∷ ks) [] h = refl
 in-zip q (k ∷ ks) (key ∷ keys) h = let b = both (q k) (list_all q ks) h in and_both (q k) (list_all (λ (p : ℕ × Keyed). q p.0) (zip ks keys)) b.0 (in-zip q ks keys b.1)
 
+-- the columns and the tests of a conjunction alone
+pub conjunction-named : (columns : ℕ) (c : Conjunction) → is_of_columns columns c ≡ true → list_all (λ (t : ValueTest). nat_lt t.column columns) (conjunction_tests c) ≡ true
+conjunction-named columns c own = list_all-map (λ (t : ValueTest). nat_lt t.column columns) (λ (t : ColumnTest). record { column = t.column; holds = λ v. tree_holds v t.tree }) c.tests ∙ own
+
+pub conjunction-passes : (row : Row) (c : Conjunction) → passes_tests (conjunction_tests c) row ≡ passes row c
+conjunction-passes row c = list_all-map (holds row) (λ (t : ColumnTest). record { column = t.column; holds = λ v. tree_holds v t.tree }) c.tests
+
 -- the columns of a conjunction and of ties
 pub tests-named : (columns : ℕ) (query : Query) (keys : List Keyed) (c : Conjunction) → is_of_columns columns c ≡ true → list_all (λ k. nat_lt k columns) (tied_columns query) ≡ true
     → list_all (λ (t : ValueTest). nat_lt t.column columns) (fact_tests query keys c) ≡ true
 tests-named columns query keys c own tied =
     all-put-columns (λ k. nat_lt k columns) (conjunction_tests c) (key_tests query keys)
-    (list_all-map (λ (t : ValueTest). nat_lt t.column columns) (λ (t : ColumnTest). record { column = t.column; holds = λ v. tree_holds v t.tree }) c.tests ∙ own)
+    (conjunction-named columns c own)
     (list_all-map (λ (t : ValueTest). nat_lt t.column columns) (λ (p : ℕ × Keyed). record { column = p.0; holds = is_key p.1 }) (zip (tied_columns query) keys) ∙ in-zip (λ k. nat_lt k columns) (tied_columns query) keys tied)

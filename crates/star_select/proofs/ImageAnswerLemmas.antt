@@ -132,6 +132,12 @@ fact_named shaped schemas s images image has here =
 
 -- ---- the answer
 
+-- the rows of an image at its place
+pub rows-at : (xs : List TableImage) (k : ℕ) (x : TableImage) → slice_get xs k ≡ Some x → slice_index_or (rows_in xs) k [] ≡ rows_of x
+rows-at [] k x e = absurd (none-some x e)
+rows-at (y ∷ xs) zero x e = ap rows_of (some-same y x e)
+rows-at (y ∷ xs) (suc k) x e = rows-at xs k x e
+
 pub answers_by_codes : AnswersByGroups → SelectsByCodes → ImageGroups → ImagesMayBeAsked → FactNamed → AnswersByCodes
 answers_by_codes by_groups by_codes grouped asked named schemas s images image has here =
     let scope : Scope = scope_of schemas s in
@@ -145,8 +151,3 @@ answers_by_codes by_groups by_codes grouped asked named schemas s images image h
         subst (λ (l : List Row). Rearranged l groups.0) (sym (ap (filter (is_selected query keys)) rows ∙ rows-selected by_codes image query keys names cells)) groups.1 in
     by_groups schemas s (rows_in images) (asked schemas s images has) groups.0 order
     ∙ ap (answer_of_groups query) (sym groups.2)
-  where
-    rows-at : (xs : List TableImage) (k : ℕ) (x : TableImage) → slice_get xs k ≡ Some x → slice_index_or (rows_in xs) k [] ≡ rows_of x
-    rows-at [] k x e = absurd (none-some x e)
-    rows-at (y ∷ xs) zero x e = ap rows_of (some-same y x e)
-    rows-at (y ∷ xs) (suc k) x e = rows-at xs k x e

@@ -1,6 +1,7 @@
 pub mod CodeSelectionLemmas
 pub mod CodeSetLemmas
 pub mod CombinationOrderLemmas
+pub mod DecodeLemmas
 pub mod DimensionLemmas
 pub mod FactTestLemmas
 pub mod FinishLemmas
@@ -19,3 +20,4 @@ pub mod PlainLineLemmas
 pub mod PlanLemmas
 pub mod PreconditionLemmas
 pub mod SumLemmas
+pub mod WantedRowLemmas

@@ -1,6 +1,6 @@
 -- What stands at a place of a list, and what is found in it.
-use Rattle.std.proofs.Common.{◌≡◌, ℕ, zero, suc, ◌+◌, ◌<◌, ◌==◌, Bool, true, false, not, ◌&&◌, ◌||◌, List, [], ◌∷◌, map, filter, find, length, slice_get, slice_index_or, Option, Some, None, option_map, cond, refl, sym, ap, ◌∙◌, subst, true≢false, arith}
-use Rattle.std.specs.List.{list_all, list_any, zip}
+use Rattle.std.proofs.Common.{◌≡◌, ℕ, zero, suc, ◌+◌, ◌<◌, ◌==◌, Bool, true, false, not, ◌&&◌, ◌||◌, List, [], ◌∷◌, ◌++◌, map, filter, find, length, slice_get, slice_index_or, Option, Some, None, option_map, cond, refl, sym, ap, ◌∙◌, subst, true≢false, arith}
+use Rattle.std.specs.List.{list_all, list_any, flat_map, zip}
 use Rattle.std.specs.Option.{is_some}
 use Rattle.std.proofs.lemmas.Bool.{eqb-true}
 use Rattle.std.specs.Prelude.{nat_le}
@@ -156,3 +156,7 @@ pub all-place : {X : Type 0} (p : X → Bool) (xs : List X) (j : ℕ) (x : X) �
 all-place p [] j x h e = absurd (none-some x e)
 all-place p (y ∷ ys) zero x h e = subst (λ z. p z ≡ true) (some-same y x e) (both (p y) (list_all p ys) h).0
 all-place p (y ∷ ys) (suc j) x h e = all-place p ys j x (both (p y) (list_all p ys) h).1 e
+
+pub flat-of-map : {X Y Z : Type 0} (f : Y → List Z) (g : X → Y) (xs : List X) → flat_map f (map g xs) ≡ flat_map (λ x. f (g x)) xs
+flat-of-map f g [] = refl
+flat-of-map f g (x ∷ xs) = ap (λ l. f (g x) ++ l) (flat-of-map f g xs)

@@ -30,10 +30,7 @@ use Rattle.star_select.specs.Picks.{item_refs, pick_of}
 use Rattle.star_select.specs.QueryPlan.{item_pick, keys_if, measures_if, slots_if}
 use Rattle.star_select.proofs.GroupLineLemmas.{map-map, map-alike, map-where, seam}
 use Rattle.star_select.proofs.ItemLemmas.{map-length}
-
-flat-of-map : {X Y Z : Type 0} (f : Y → List Z) (g : X → Y) (xs : List X) → flat_map f (map g xs) ≡ flat_map (λ x. f (g x)) xs
-flat-of-map f g [] = refl
-flat-of-map f g (x ∷ xs) = ap (λ l. f (g x) ++ l) (flat-of-map f g xs)
+use Rattle.star_select.proofs.ListLemmas.{flat-of-map}
 
 -- rows that all give one line give it as often as they are
 replicated : {X Y : Type 0} (p : X → Bool) (f : X → Y) (y : Y) → ((x : X) → p x ≡ true → f x ≡ y) → (xs : List X) → list_all p xs ≡ true → map f xs ≡ replicate (length xs) y

@@ -1,12 +1,12 @@
 -- Which rows of a cell of the fact are selected, by sets of codes: those of a conjunction's tests, with the key sets of the ties among them. Source: after Raman et al., ICDE 2008 (star joins on codes).
-use Rattle.std.specs.Prelude.{◌≡◌, ◌==◌, ℕ, Bool, true, false, ◌&&◌, List, [], ◌∷◌, map, filter, length, nat_lt}
-use Rattle.std.specs.List.{list_any, list_all, zip}
+use Rattle.std.specs.Prelude.{◌≡◌, ◌==◌, ℕ, Bool, true, false, ◌&&◌, List, [], ◌∷◌, ◌++◌, map, filter, length, nat_lt}
+use Rattle.std.specs.List.{list_any, list_all, flat_map, zip}
 use Rattle.blink_base.specs.Tests.{tree_holds}
 use Rattle.blink_base.specs.Values.{Row}
 use Rattle.star_bind.specs.declared.query.ColumnTest.{ColumnTest}
 use Rattle.star_bind.specs.declared.query.Conjunction.{Conjunction}
 use Rattle.star_bind.specs.declared.query.Query.{Query}
-use Rattle.star_bind.specs.Joins.{filters_at}
+use Rattle.star_bind.specs.Joins.{filters_at, is_wanted}
 use Rattle.order_codes.specs.Dictionary.{Classes}
 use Rattle.cell_layout.specs.Image.{TableImage, CellImage, decoded_row}
 use Rattle.cell_layout.specs.Valid.{are_codes}
@@ -50,6 +50,15 @@ fact_tests query keys c = put_tests (conjunction_tests c) (key_tests query keys)
 abbrev pub codes_selected : List Classes → List ℕ → Query → List Keyed → List ℕ → Bool
 codes_selected columns classes query keys codes = list_any (λ c. passes_all (sets_in columns classes (fact_tests query keys c)) codes) (filters_at query query.fact)
 
+-- whether the codes of a row of a table pass the tests of some conjunction of the table's own, in a cell of these class numbers
+abbrev pub codes_wanted : List Classes → List ℕ → Query → ℕ → List ℕ → Bool
+codes_wanted columns classes query table codes = list_any (λ c. passes_all (sets_in columns classes (conjunction_tests c)) codes) (filters_at query table)
+
+-- the rows of a table on which its own condition is true: cell by cell by their codes, and then those that are in no cell
+abbrev pub image_wanted : TableImage → Query → ℕ → List Row
+image_wanted image query table =
+    flat_map (λ cell. map (decoded_row image.columns cell.classes) (filter (codes_wanted image.columns cell.classes query table) cell.rows)) image.cells ++ filter (is_wanted query table) image.rest
+
 -- each cell of the fact with its selected rows
 abbrev pub fact_cells : TableImage → Query → List Keyed → List (CellImage × List (List ℕ))
 fact_cells image query keys = map (λ cell. (cell, filter (codes_selected image.columns cell.classes query keys) cell.rows)) image.cells
@@ -78,3 +87,9 @@ abbrev pub SelectsByCodes : Type 0
 SelectsByCodes =
     (columns : List Classes) (classes codes : List ℕ) (query : Query) (keys : List Keyed) → length classes ≡ length columns → are_codes columns classes codes ≡ true
     → NamesFact (length columns) query keys → codes_selected columns classes query keys codes ≡ is_selected query keys (decoded_row columns classes codes)
+
+-- The law that the codes of a row pass the tests of some conjunction of its table exactly where that table's own condition is true of the row that they stand for.
+abbrev pub WantedByCodes : Type 0
+WantedByCodes =
+    (columns : List Classes) (classes codes : List ℕ) (query : Query) (table : ℕ) → length classes ≡ length columns → are_codes columns classes codes ≡ true
+    → list_all (is_of_columns (length columns)) (filters_at query table) ≡ true → codes_wanted columns classes query table codes ≡ is_wanted query table (decoded_row columns classes codes)

@@ -1,5 +1,5 @@
 -- The answer to a query over the images of its tables: rows of the fact chosen by sets of codes, grouped by codes and by places of keys, decoded late, and merged with the rows that are in no cell. Source: ISO/IEC 9075 (queries) for the answer; after Raman et al., ICDE 2008 (queries over a frequency partition).
-use Rattle.std.specs.Prelude.{◌≡◌, true, List, map, length, Some, None, slice_get}
+use Rattle.std.specs.Prelude.{◌≡◌, ℕ, true, List, [], map, length, Some, None, slice_get}
 use Rattle.std.specs.List.{list_all}
 use Rattle.blink_base.specs.Values.{Row}
 use Rattle.star_sql.specs.declared.ast.Select.{Select}
@@ -7,15 +7,18 @@ use Rattle.star_sql.specs.WellFormed.{is_select}
 use Rattle.star_meaning.specs.Names.{Scope}
 use Rattle.star_meaning.specs.Answer.{answer}
 use Rattle.star_bind.specs.declared.query.Query.{Query}
+use Rattle.star_bind.specs.declared.query.Tie.{Tie}
 use Rattle.star_bind.specs.BoundQuery.{Schemas, scope_of, first_refusal, query_of}
 use Rattle.cell_layout.specs.Image.{TableImage, rows_of}
 use Rattle.cell_layout.specs.Valid.{is_valid}
 use Rattle.code_join.specs.Keys.{Keyed}
+use Rattle.dim_filter.specs.Entries.{collected, key_column}
 use Rattle.code_group.specs.GroupRows.{image_groups}
 use Rattle.late_decode.specs.Groups.{Grouped}
-use Rattle.star_select.specs.CodeSelection.{fact_cells, fact_rest, NamesFact}
+use Rattle.star_select.specs.CodeSelection.{image_wanted, fact_cells, fact_rest, NamesFact}
 use Rattle.star_select.specs.GroupAnswer.{answer_of_groups}
-use Rattle.star_select.specs.KeySets.{key_maps, MayBeAsked}
+use Rattle.star_select.specs.KeySets.{keyed_of, key_maps, MayBeAsked}
+use Rattle.star_select.specs.Picks.{wanted_columns}
 use Rattle.star_select.specs.QueryPlan.{plan_of}
 
 -- the rows that images stand for
@@ -46,6 +49,14 @@ abbrev pub FactNamed : Type 0
 FactNamed =
     (schemas : Schemas) (s : Select) (images : List TableImage) (image : TableImage) → HasImages schemas s images → slice_get images (query_of schemas s).fact ≡ Some image
     → NamesFact (length image.columns) (query_of schemas s) (image_keys (query_of schemas s) (scope_of schemas s) images)
+
+-- The law that the keys of a tie are those of the rows of its dimension's image whose codes are wanted, cell by cell, and then of those that are in no cell.
+abbrev pub KeysByCodes : Type 0
+KeysByCodes =
+    (schemas : Schemas) (s : Select) (images : List TableImage) (image : TableImage) (place : ℕ) (tie : Tie) → HasImages schemas s images
+    → slice_get (query_of schemas s).ties place ≡ Some tie → slice_get images tie.dimension ≡ Some image
+    → keyed_of (query_of schemas s) (scope_of schemas s) (rows_in images) tie
+    ≡ collected (key_column image) (wanted_columns (query_of schemas s) tie.dimension) [] (image_wanted image (query_of schemas s) tie.dimension)
 
 -- The law that the answer to a query over the rows that images stand for is that of the groups that the image of its fact gives.
 abbrev pub AnswersByCodes : Type 0

@@ -12,6 +12,7 @@ use Rattle.star_bind.specs.declared.query.Query.{Query}
 use Rattle.star_bind.specs.declared.query.Tie.{Tie}
 use Rattle.star_bind.specs.BoundQuery.{Schemas, scope_of, first_refusal, query_of}
 use Rattle.star_bind.specs.Joins.{filters_at, key_at}
+use Rattle.star_bind.specs.QueryShape.{is_condition_on}
 use Rattle.order_codes.specs.Dictionary.{codes_where}
 use Rattle.page_synopsis.specs.Runs.{in_both}
 use Rattle.cell_layout.specs.Image.{TableImage}
@@ -52,6 +53,12 @@ abbrev pub TiesHaveDimensions : Type 0
 TiesHaveDimensions =
     (schemas : Schemas) (s : Select) (images : List TableImage) (place : ℕ) (tie : Tie) → HasImages schemas s images → slice_get (query_of schemas s).ties place ≡ Some tie
     → (image : TableImage) × (slice_get images tie.dimension ≡ Some image) × IsDimension (query_of schemas s) (scope_of schemas s) tie image
+
+-- The law that the condition on each table is 1 to 64 conjunctions, each of columns of its image, and of none twice.
+abbrev pub ConditionsAreThere : Type 0
+ConditionsAreThere =
+    (schemas : Schemas) (s : Select) (images : List TableImage) (image : TableImage) (table : ℕ) → HasImages schemas s images → slice_get images table ≡ Some image
+    → is_condition_on (length image.columns) (filters_at (query_of schemas s) table) ≡ true
 
 -- The law that a conjunction of the fact with all key sets tests no column twice.
 abbrev pub FactTestsApart : Type 0

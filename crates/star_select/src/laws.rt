@@ -1,10 +1,11 @@
 //! Laws of queries over images, which their definitions meet.
 
-ghost use Rattle.star_select.specs.CodeSelection.{SelectsByCodes, SelectsByConjunctions};
+ghost use Rattle.star_select.specs.CodeSelection.{SelectsByCodes, SelectsByConjunctions, WantedByCodes};
+ghost use Rattle.star_select.specs.Decodes.{DecodesAddUp};
 ghost use Rattle.star_select.specs.GroupAnswer.{AnswersByGroups, QueriesAreGrouped};
-ghost use Rattle.star_select.specs.ImageAnswer.{AnswersByCodes, FactNamed, ImagesMayBeAsked};
+ghost use Rattle.star_select.specs.ImageAnswer.{AnswersByCodes, FactNamed, ImagesMayBeAsked, KeysByCodes};
 ghost use Rattle.star_select.specs.KeySets.{KeysOnce, PicksByPlace, SelectsByKeys};
-ghost use Rattle.star_select.specs.Preconditions.{EmptySetsPassNone, FactTestsApart, GroupsCanFinish, PlansAreThere, SetsMeet, SumsAreNumbers, TiesHaveDimensions};
+ghost use Rattle.star_select.specs.Preconditions.{ConditionsAreThere, EmptySetsPassNone, FactTestsApart, GroupsCanFinish, PlansAreThere, SetsMeet, SumsAreNumbers, TiesHaveDimensions};
 
 use blink_base::laws::{lines_in_any_order, rows_are_told_apart, totals_in_any_order};
 use cell_scan::laws::sets_are_tests;
@@ -145,4 +146,41 @@ pub fn groups_can_finish()
     ensures { GroupsCanFinish }
 {
     queries_are_grouped();
+}
+
+/// What the key maps decode, a key and its wanted values a selected row of a dimension, and what the groups of the fact do, the
+/// measured and the grouping columns a selected row of a cell, is no more than the query may decode. Source: after Raman et al.,
+/// ICDE 2008 (late decoding); the bound is this project's own.
+pub fn decodes_add_up()
+    ensures { DecodesAddUp }
+{
+    queries_have_shape();
+    selects_by_codes();
+    fact_named();
+}
+
+/// The codes of a row of a cell pass the tests of some conjunction exactly where its table's own condition is true of the row
+/// that they stand for. Source: after Raman et al., ICDE 2008 (predicates on order-preserving codes).
+pub fn wanted_by_codes()
+    ensures { WantedByCodes }
+{
+    sets_are_tests();
+}
+
+/// The condition on each table is 1 to 64 conjunctions, each of columns of its image and of none twice. Source: this project's
+/// own.
+pub fn conditions_are_there()
+    ensures { ConditionsAreThere }
+{
+    queries_have_shape();
+}
+
+/// The keys of a tie are those of the wanted rows of its dimension's image, cell by cell by their codes, and then of those that
+/// are in no cell. Source: after Raman et al., ICDE 2008 (dimensions are filtered first).
+pub fn keys_by_codes()
+    ensures { KeysByCodes }
+{
+    wanted_by_codes();
+    conditions_are_there();
+    ties_have_dimensions();
 }
