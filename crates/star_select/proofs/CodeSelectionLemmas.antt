@@ -37,7 +37,7 @@ filter-where w p q same (x ∷ xs) h = let b = both (w x) (list_all w xs) h in b
     by true e k r = rw (k, e) (ap (λ l. x ∷ l) r)
     by false e k r = rw (k, e) r
 
-filter-good : {X : Type 0} (w c g : X → Bool) → ((x : X) → w x ≡ true → c x ≡ true → g x ≡ true) → (xs : List X) → list_all w xs ≡ true → list_all g (filter c xs) ≡ true
+pub filter-good : {X : Type 0} (w c g : X → Bool) → ((x : X) → w x ≡ true → c x ≡ true → g x ≡ true) → (xs : List X) → list_all w xs ≡ true → list_all g (filter c xs) ≡ true
 filter-good w c g step [] h = refl
 filter-good w c g step (x ∷ xs) h = let b = both (w x) (list_all w xs) h in by (c x) refl (step x b.0) (filter-good w c g step xs b.1)
   where

@@ -44,7 +44,7 @@ use Rattle.star_select.specs.Picks.{expr_refs, item_refs, named_refs, wanted_col
 use Rattle.star_select.specs.QueryPlan.{has_total, is_plain, formula_of, measure_of, item_pick, keys_if, measures_if, plan_of}
 use Rattle.star_bind.specs.Joins.{key_at}
 use Rattle.star_select.proofs.CodeSelectionLemmas.{rows-selected}
-use Rattle.star_select.proofs.GroupedLineLemmas.{none-total}
+use Rattle.star_select.proofs.QueryLineLemmas.{none-total}
 use Rattle.star_select.proofs.ImageAnswerLemmas.{rows-at}
 use Rattle.star_select.proofs.ListLemmas.{all-place}
 

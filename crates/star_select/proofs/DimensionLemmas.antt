@@ -35,7 +35,7 @@ use Rattle.star_select.specs.KeySets.{wanted_rows, keyed_of, key_maps}
 use Rattle.star_select.specs.Picks.{same_ref, named_refs, wanted_columns, wanted_place, tie_place, pick_if, pick_of}
 use Rattle.star_select.proofs.KeySetLemmas.{parts}
 use Rattle.star_select.proofs.ListLemmas.{some-same, none-some, each-place, zip-place, there-place, found-passes, any-found, any-once, all-place}
-use Rattle.star_select.proofs.NamedLemmas.{is_among, ref-within}
+use Rattle.star_select.proofs.NamedColumnLemmas.{is_among, ref-within}
 
 -- what is found passes what all pass
 found-of : {X : Type 0} (q p : X → Bool) (xs : List X) (x : X) → list_all q xs ≡ true → find p xs ≡ Some x → q x ≡ true

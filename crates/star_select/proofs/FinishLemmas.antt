@@ -28,7 +28,7 @@ use Rattle.star_select.specs.Picks.{same_ref, pick_of}
 use Rattle.star_select.specs.Preconditions.{CanFinish, GroupsCanFinish}
 use Rattle.star_select.specs.QueryPlan.{has_total, is_plain, is_single, item_pick, keys_if, measures_if, group_place, slot_of, slots_if, plan_of, finish_of}
 use Rattle.star_select.specs.QueryPlan.{measure_of}
-use Rattle.star_select.proofs.GroupedLineLemmas.{all-total}
+use Rattle.star_select.proofs.QueryLineLemmas.{all-total}
 use Rattle.star_select.proofs.ListLemmas.{any-found}
 
 -- numbers of elements are below the count of all

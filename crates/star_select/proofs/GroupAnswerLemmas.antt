@@ -32,10 +32,10 @@ use Rattle.star_select.specs.Picks.{same_ref, named_refs, pick_of, tied_columns}
 use Rattle.star_select.specs.QueryPlan.{plan_of}
 use Rattle.star_select.proofs.CombinationOrderLemmas.{answer-rearranged}
 use Rattle.star_select.proofs.GroupLineLemmas.{map-map, map-alike}
-use Rattle.star_select.proofs.GroupedLineLemmas.{answer-is}
+use Rattle.star_select.proofs.QueryLineLemmas.{answer-is}
 use Rattle.star_select.proofs.JoinedRowLemmas.{Found, all_found, founds-are, finders-are, found-only, found-rearranged}
 use Rattle.star_select.proofs.ListLemmas.{all-pass}
-use Rattle.star_select.proofs.NamedLemmas.{is_named, all-named, ref-within}
+use Rattle.star_select.proofs.NamedColumnLemmas.{is_named, all-named, ref-within}
 
 -- groups of elements are those of what they stand for
 groups-of-map : {X Y : Type 0} (plan : GroupPlan) (f : Y → X) (picked : X → Picked) (ys : List Y) → groups_by_plan plan (λ y. picked (f y)) ys ≡ groups_by_plan plan picked (map f ys)

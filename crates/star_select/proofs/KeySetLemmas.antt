@@ -34,7 +34,7 @@ use Rattle.star_bind.proofs.TieLemmas.{Each, IsTie}
 use Rattle.star_bind.proofs.StarLemmas.{all-each, IsPart}
 use Rattle.star_bind.proofs.AcceptanceLemmas.{Accepted, accepted, scope_accepted, parts_from}
 use Rattle.star_bind.proofs.FactRowLemmas.{query-is, tied}
-use Rattle.star_select.proofs.NamedLemmas.{is_among}
+use Rattle.star_select.proofs.NamedColumnLemmas.{is_among}
 use Rattle.star_select.proofs.ListLemmas.{some-same, none-some, each-both, each-place, zip-length, zip-place, zip-maps, found-passes, any-found, some-map, any-numbered, there-some, there-place, any-once}
 
 module _ (scope : Scope) (s : Select) (fact : ℕ) (a : Accepted scope s fact) (tables : List (List Row)) (sized : length tables ≡ length scope) (held : list_all may_hold (zip scope tables) ≡ true) where

@@ -17,7 +17,7 @@ use Rattle.late_decode.specs.declared.plan.Measure.{Measure}
 use Rattle.late_decode.specs.declared.plan.Measure.TheVariants as measure
 use Rattle.star_select.specs.Picks.{expr_refs, item_refs, pick_of}
 use Rattle.star_select.specs.QueryPlan.{has_total, is_plain, formula_of, measure_of, item_pick, keys_if, measures_if, plan_of}
-use Rattle.star_select.proofs.GroupedLineLemmas.{none-total}
+use Rattle.star_select.proofs.QueryLineLemmas.{none-total}
 
 -- the columns that an item sums
 abbrev pub summed_refs : BoundItem → List ColumnRef

@@ -42,7 +42,7 @@ use Rattle.star_select.specs.QueryPlan.{plan_of}
 use Rattle.star_select.proofs.DimensionLemmas.{pick-there, row-fits, column-within}
 use Rattle.star_select.proofs.ImageAnswerLemmas.{entry-same, columns-as-many}
 use Rattle.star_select.proofs.ListLemmas.{some-same, none-some, zip-place, all-place}
-use Rattle.star_select.proofs.NamedLemmas.{is_named, all-named, ref-within, refs-there}
+use Rattle.star_select.proofs.NamedColumnLemmas.{is_named, all-named, ref-within, refs-there}
 use Rattle.star_select.proofs.PlanLemmas.{plan-picks, plan-sums}
 use Rattle.star_select.proofs.SumLemmas.{value-good, is_summed, all-summed}
 

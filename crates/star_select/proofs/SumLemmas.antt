@@ -25,7 +25,7 @@ use Rattle.star_bind.specs.QueryShape.{is_number_ref, is_number_expr, is_item, H
 use Rattle.code_group.specs.Plans.{is_good_number}
 use Rattle.star_select.specs.Picks.{expr_refs, item_refs}
 use Rattle.star_select.proofs.ListLemmas.{some-same, none-some, zip-place, all-place}
-use Rattle.star_select.proofs.NamedLemmas.{is_named, all-named}
+use Rattle.star_select.proofs.NamedColumnLemmas.{is_named, all-named}
 use Rattle.star_select.proofs.PlanLemmas.{summed_refs}
 
 number-good : (k : Kind) (v : Value) → is_entry k v ≡ true → same_kind k kind.Int ≡ true → is_good_number v ≡ true

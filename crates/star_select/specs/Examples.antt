@@ -19,11 +19,17 @@ use Rattle.star_meaning.specs.Queries.{int_table, int_rows, int_lines, plain}
 use Rattle.star_bind.specs.declared.query.Query.{Query}
 use Rattle.star_bind.specs.BoundQuery.{Schemas, scope_of, first_refusal, query_in}
 use Rattle.star_bind.specs.Laws.{may_hold}
+use Rattle.late_decode.specs.declared.plan.Formula.TheVariants as formula
+use Rattle.late_decode.specs.declared.plan.Measure.TheVariants as measure
 use Rattle.late_decode.specs.declared.plan.Pick.TheVariants.{Fact, Dimension}
-use Rattle.star_bind.specs.Joins.{joined_row}
+use Rattle.late_decode.specs.GroupLines.{finished}
+use Rattle.star_bind.specs.Joins.{filters_at, joined_row}
+use Rattle.star_select.specs.CodeSelection.{fact_tests}
 use Rattle.star_select.specs.Decodes.{most_decodes}
+use Rattle.star_select.specs.GroupAnswer.{groups_of, answer_of_groups}
 use Rattle.star_select.specs.KeySets.{key_maps, is_selected}
 use Rattle.star_select.specs.Picks.{pick_of}
+use Rattle.star_select.specs.QueryPlan.{plan_of}
 
 -- tables f (fk, v), d (k key, n), e (j key, m)
 abbrev known : List FromEntry
@@ -69,12 +75,16 @@ StarJoined =
     ≡ map (λ (rows : List (List ℕ)). int_rows rows) (((3 ∷ 70 ∷ []) ∷ (3 ∷ 4 ∷ []) ∷ (8 ∷ 3 ∷ []) ∷ []) ∷ ((1 ∷ 70 ∷ []) ∷ (1 ∷ 2 ∷ []) ∷ (6 ∷ 1 ∷ []) ∷ []) ∷ ((1 ∷ 70 ∷ []) ∷ (1 ∷ 1 ∷ []) ∷ (6 ∷ 1 ∷ []) ∷ []) ∷ []))
     × (key_maps query (scope_of schemas joining) (rows_d ∷ rows_f ∷ rows_e ∷ [])
     ≡ ((Int (pos 3), Int (pos 8) ∷ []) ∷ (Int (pos 1), Int (pos 6) ∷ []) ∷ []) ∷ ((Int (pos 1), Int (pos 70) ∷ []) ∷ (Int (pos 2), Int (pos 80) ∷ []) ∷ (Int (pos 3), Int (pos 70) ∷ []) ∷ []) ∷ [])
+    × (map (λ c. map (λ t. t.column) (fact_tests query (key_maps query (scope_of schemas joining) (rows_d ∷ rows_f ∷ rows_e ∷ [])) c)) (filters_at query 1) ≡ (1 ∷ 0 ∷ []) ∷ [])
     × (most_decodes query (scope_of schemas joining) (rows_d ∷ rows_f ∷ rows_e ∷ []) ≡ 16)
+    × ((plan_of query).keys ≡ Dimension 1 0 ∷ [])
+    × ((plan_of query).measures ≡ measure.Count ∷ measure.Count ∷ measure.Sum (formula.One (Fact 1)) ∷ measure.Greatest (Dimension 0 0) ∷ [])
     × (pick_of query (record { table = 0; column = 1 }) ≡ Dimension 1 0)
     × (pick_of query (record { table = 2; column = 0 }) ≡ Dimension 0 0)
     × (pick_of query (record { table = 1; column = 1 }) ≡ Fact 1)
+    × ((answer_of_groups query (groups_of query (key_maps query (scope_of schemas joining) (rows_d ∷ rows_f ∷ rows_e ∷ [])) (int_rows ((3 ∷ 4 ∷ []) ∷ (1 ∷ 2 ∷ []) ∷ (1 ∷ 1 ∷ []) ∷ [])))).lines ≡ int_lines ((70 ∷ 7 ∷ 8 ∷ []) ∷ []))
     × (lines (scope_of schemas joining) joining (rows_d ∷ rows_f ∷ rows_e ∷ []) ≡ int_lines ((70 ∷ 7 ∷ 8 ∷ []) ∷ []))
 
 pub star_joined_lem : StarJoined
-unfolding first_refusal lines hidden hidden-the_row-Tree-0
-star_joined_lem = (refl, refl, refl, refl, refl, refl, refl, refl, refl, refl)
+unfolding first_refusal lines finished hidden hidden-the_row-Tree-0
+star_joined_lem = (refl, refl, refl, refl, refl, refl, refl, refl, refl, refl, refl, refl, refl, refl)

@@ -1,5 +1,5 @@
 -- What the calls that collect keys, scan, group and finish ask of the parts of a query over images. Source: this project's own.
-use Rattle.std.specs.Prelude.{◌≡◌, ◌<◌, ◌==◌, ℕ, Bool, true, false, ◌&&◌, not, List, map, length, nat_lt, Some, None, IsSome, slice_get}
+use Rattle.std.specs.Prelude.{◌≡◌, ◌<◌, ◌==◌, ℕ, Bool, true, false, ◌&&◌, not, List, map, filter, length, nat_lt, Some, None, IsSome, slice_get}
 use Rattle.std.specs.List.{All, list_all, list_any}
 use Rattle.blink_base.specs.declared.value.Value.{Value}
 use Rattle.blink_base.specs.RowFits.{fits}
@@ -15,15 +15,16 @@ use Rattle.star_bind.specs.Joins.{filters_at, key_at}
 use Rattle.star_bind.specs.QueryShape.{is_condition_on}
 use Rattle.order_codes.specs.Dictionary.{codes_where}
 use Rattle.page_synopsis.specs.Runs.{in_both}
-use Rattle.cell_layout.specs.Image.{TableImage}
-use Rattle.cell_scan.specs.Match.{CodeSet, passes_all}
+use Rattle.cell_layout.specs.Image.{TableImage, cell_at, decoded_row}
+use Rattle.cell_scan.specs.Match.{CodeSet, passes_all, rows_of_page}
 use Rattle.code_join.specs.Keys.{Keyed}
-use Rattle.code_group.specs.Entries.{picked_beside}
+use Rattle.code_group.specs.Entries.{picked_beside, has_keys}
+use Rattle.code_group.specs.GroupRows.{picked_of}
 use Rattle.code_group.specs.Plans.{plan_there, sums_numbers, are_of_plan}
 use Rattle.dim_filter.specs.Entries.{key_column}
 use Rattle.late_decode.specs.Bounds.{counts_first, is_key_slot, slots_within}
 use Rattle.late_decode.specs.Groups.{Grouped}
-use Rattle.star_select.specs.CodeSelection.{fact_tests}
+use Rattle.star_select.specs.CodeSelection.{fact_tests, codes_selected}
 use Rattle.star_select.specs.ImageAnswer.{image_keys, HasImages}
 use Rattle.star_select.specs.KeySets.{is_selected}
 use Rattle.star_select.specs.Picks.{wanted_columns, tied_columns}
@@ -41,6 +42,21 @@ SumsAreNumbers =
     (schemas : Schemas) (s : Select) (images : List TableImage) (image : TableImage) → HasImages schemas s images → slice_get images (query_of schemas s).fact ≡ Some image
     → (row : Row) → fits image.schema row ≡ true → is_selected (query_of schemas s) (image_keys (query_of schemas s) (scope_of schemas s) images) row ≡ true
     → sums_numbers (plan_of (query_of schemas s)) (picked_beside (tied_columns (query_of schemas s)) (image_keys (query_of schemas s) (scope_of schemas s) images) row) ≡ true
+
+-- the selected rows of a page of a cell of the fact
+abbrev pub page_selected : TableImage → Query → List Keyed → ℕ → ℕ → List (List ℕ)
+page_selected image query keys cell page = filter (codes_selected image.columns (cell_at image cell).classes query keys) (rows_of_page (cell_at image cell).rows page)
+
+-- the tied values of such rows are keys, and what is summed of them is good whole numbers
+pub record IsPageJoined (image : TableImage) (query : Query) (keys : List Keyed) (cell page : ℕ) : Type 0 where
+  pub joined : list_all (λ codes. has_keys (tied_columns query) keys (decoded_row image.columns (cell_at image cell).classes codes)) (page_selected image query keys cell page) ≡ true
+  pub numbers : list_all (λ codes. sums_numbers (plan_of query) (picked_of image (cell_at image cell) (plan_of query) keys codes)) (page_selected image query keys cell page) ≡ true
+
+-- The law that this holds of each page of each cell of the fact.
+abbrev pub PagesAreJoined : Type 0
+PagesAreJoined =
+    (schemas : Schemas) (s : Select) (images : List TableImage) (image : TableImage) (cell page : ℕ) → HasImages schemas s images → slice_get images (query_of schemas s).fact ≡ Some image
+    → cell < length image.cells → IsPageJoined image (query_of schemas s) (image_keys (query_of schemas s) (scope_of schemas s) images) cell page
 
 -- the image of a tie's dimension has a key, which the key map is of, and the wanted columns
 pub record IsDimension (query : Query) (scope : Scope) (tie : Tie) (image : TableImage) : Type 0 where

@@ -5,7 +5,7 @@ ghost use Rattle.star_select.specs.Decodes.{DecodesAddUp};
 ghost use Rattle.star_select.specs.GroupAnswer.{AnswersByGroups, QueriesAreGrouped};
 ghost use Rattle.star_select.specs.ImageAnswer.{AnswersByCodes, FactNamed, ImagesMayBeAsked, KeysByCodes};
 ghost use Rattle.star_select.specs.KeySets.{KeysOnce, PicksByPlace, SelectsByKeys};
-ghost use Rattle.star_select.specs.Preconditions.{ConditionsAreThere, EmptySetsPassNone, FactTestsApart, GroupsCanFinish, PlansAreThere, SetsMeet, SumsAreNumbers, TiesHaveDimensions};
+ghost use Rattle.star_select.specs.Preconditions.{ConditionsAreThere, EmptySetsPassNone, FactTestsApart, GroupsCanFinish, PagesAreJoined, PlansAreThere, SetsMeet, SumsAreNumbers, TiesHaveDimensions};
 
 use blink_base::laws::{lines_in_any_order, rows_are_told_apart, totals_in_any_order};
 use cell_scan::laws::sets_are_tests;
@@ -183,4 +183,14 @@ pub fn keys_by_codes()
     wanted_by_codes();
     conditions_are_there();
     ties_have_dimensions();
+}
+
+/// The tied values of the selected rows of a page of the fact are keys, and what is summed of them is good whole numbers.
+/// Source: this project's own.
+pub fn pages_are_joined()
+    ensures { PagesAreJoined }
+{
+    selects_by_codes();
+    fact_named();
+    sums_are_numbers();
 }
