@@ -1,0 +1,9 @@
+pub mod CodeSelection
+pub mod Decodes
+pub mod Examples
+pub mod GroupAnswer
+pub mod ImageAnswer
+pub mod KeySets
+pub mod Picks
+pub mod Preconditions
+pub mod QueryPlan
