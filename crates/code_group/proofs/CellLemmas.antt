@@ -9,7 +9,7 @@ use Rattle.cell_layout.specs.Image.{TableImage, CellImage, cell_at, rows_of}
 use Rattle.cell_layout.specs.Layout.{cell_cmp}
 use Rattle.cell_layout.specs.Valid.{is_cell, are_codes, is_row_count, is_rest_row, is_valid, are_keyed, most_cell_rows}
 use Rattle.order_codes.specs.Dictionary.{Classes}
-use Rattle.code_group.specs.CellRow.{HaveClasses}
+use Rattle.code_group.specs.CellLaws.{CellFacts, CellsHaveClasses}
 
 pub valid-cell : (image : TableImage) (cell : ℕ) → is_valid image ≡ true → cell < length image.cells → is_cell image.columns (cell_at image cell) ≡ true
 valid-cell image cell h lt =
@@ -28,12 +28,6 @@ class-there (c ∷ cs) (n ∷ ns) h e zero lt = ltb-true n (length c) (both (nat
 class-there (c ∷ cs) (n ∷ ns) h e (suc k) lt =
     class-there cs ns (both (nat_lt n (length c)) (list_all (λ p. nat_lt p.1 (length p.0)) (zip cs ns)) h).1 (omega (arith, e)) k (omega (arith, lt))
 
--- what a cell has
-pub record CellFacts (columns : List Classes) (cell : CellImage) : Type 0 where
-  pub classes : HaveClasses columns cell.classes
-  pub few : length cell.rows ≤ most_cell_rows
-  pub codes : list_all (are_codes columns cell.classes) cell.rows ≡ true
-
 pub cell-facts : (columns : List Classes) (cell : CellImage) → is_cell columns cell ≡ true → CellFacts columns cell
 cell-facts columns cell h =
     let a = both _ (list_all (are_codes columns cell.classes) cell.rows) h in
@@ -46,3 +40,6 @@ cell-facts columns cell h =
       few = leb-true (length cell.rows) most_cell_rows d.1;
       codes = a.1;
     }
+
+pub cells-have-classes : CellsHaveClasses
+cells-have-classes image cell h lt = cell-facts image.columns (cell_at image cell) (valid-cell image cell h lt)

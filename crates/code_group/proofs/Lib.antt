@@ -6,6 +6,7 @@ pub mod EntryLemmas
 pub mod GroupLemmas
 pub mod ImageGroupLemmas
 pub mod PageLemmas
+pub mod PlanLemmas
 pub mod RestLemmas
 pub mod RowPartLemmas
 pub mod SelectedRowLemmas

@@ -15,6 +15,7 @@ use Rattle.late_decode.specs.BoundLaws.{AddedAreCoded, CodedCombinationsAdded, R
 use Rattle.late_decode.specs.Bounds.{is_bounded, are_parts, are_groups, combinations_in}
 use Rattle.late_decode.specs.Groups.{Grouped, added, rows_added}
 use Rattle.late_decode.specs.Parts.{parts_over}
+use Rattle.code_group.specs.CellLaws.{CellFacts}
 use Rattle.code_group.specs.CellRow.{IsTied, picked_by, tuple_by}
 use Rattle.code_group.specs.Entries.{entry_in, maps_in, size_in}
 use Rattle.code_group.specs.GroupRows.{picked_of, tuple_of}
@@ -24,7 +25,7 @@ use Rattle.code_group.specs.RowParts.{rows_counted}
 use Rattle.code_group.specs.Slots.{is_within}
 use Rattle.code_group.specs.Tuples.{same_tuple}
 use Rattle.code_group.proofs.BoundLemmas.{row-parts, row-combination, added-pass, added-new, coded-of-plan}
-use Rattle.code_group.proofs.CellLemmas.{CellFacts, cell-facts, valid-cell}
+use Rattle.code_group.proofs.CellLemmas.{cell-facts, valid-cell}
 use Rattle.code_group.proofs.CountLemmas.{counted}
 use Rattle.code_group.proofs.RowPartLemmas.{length-map}
 use Rattle.code_group.proofs.SelectedRowLemmas.{selected-next, selected-none, selected-within, selected-many, page-row}

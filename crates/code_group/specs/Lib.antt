@@ -1,9 +1,11 @@
+pub mod CellLaws
 pub mod CellRow
 pub mod Entries
 pub mod Formulas
 pub mod GroupLaws
 pub mod GroupRows
 pub mod PageGroups
+pub mod PlanLaws
 pub mod Plans
 pub mod RowParts
 pub mod Slots
