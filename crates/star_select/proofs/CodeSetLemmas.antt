@@ -43,7 +43,7 @@ sets-meet p q from (v ∷ values) = by (p v) (q v) (sets-meet p q (from + 1) val
   where
     by : (b c : Bool) → in_both (codes_from p (from + 1) values) (codes_from q (from + 1) values) ≡ codes_from (λ v. p v && q v) (from + 1) values
         → in_both (map (λ r. r.0) (cond b ((from, v) ∷ filter (λ r. p r.1) (numbered_from (from + 1) values)) (filter (λ r. p r.1) (numbered_from (from + 1) values))))
-          (map (λ r. r.0) (cond c ((from, v) ∷ filter (λ r. q r.1) (numbered_from (from + 1) values)) (filter (λ r. q r.1) (numbered_from (from + 1) values))))
+        (map (λ r. r.0) (cond c ((from, v) ∷ filter (λ r. q r.1) (numbered_from (from + 1) values)) (filter (λ r. q r.1) (numbered_from (from + 1) values))))
         ≡ map (λ r. r.0) (cond (b && c) ((from, v) ∷ filter (λ r. p r.1 && q r.1) (numbered_from (from + 1) values)) (filter (λ r. p r.1 && q r.1) (numbered_from (from + 1) values)))
     by true true more =
         let here : (from == from) ≡ true = eq-eqb from from refl in

@@ -186,7 +186,7 @@ ties-sum {Z} g zs (t ∷ ts) h =
     let first = sum_by-cons (λ (u : Tie). g u.dimension) t ts in
     let added = add-at t.dimension (g t.dimension) 0 t.dimension (λ (p : ℕ × Z). count_by (λ (u : Tie). u.dimension == p.0) ts * g p.0) zs (omega arith) (ltb-true t.dimension (length zs) b.0) in
     let less = sum_by-le-sum_by (λ (p : ℕ × Z). count_by (λ (u : Tie). u.dimension == p.0) ts * g p.0 + cond (p.0 == t.dimension) (g t.dimension) 0)
-        (λ (p : ℕ × Z). count_by (λ (u : Tie). u.dimension == p.0) (t ∷ ts) * g p.0) (numbered zs) (λ p. one p.0) in
+    (λ (p : ℕ × Z). count_by (λ (u : Tie). u.dimension == p.0) (t ∷ ts) * g p.0) (numbered zs) (λ p. one p.0) in
     omega (arith, more, first, added, less)
   where
     one : (d : ℕ) → count_by (λ (u : Tie). u.dimension == d) ts * g d + cond (d == t.dimension) (g t.dimension) 0 ≤ count_by (λ (u : Tie). u.dimension == d) (t ∷ ts) * g d
@@ -247,7 +247,7 @@ module _ (query : Query) (scope : Scope) (tables : List (List Row)) (within : qu
           let none : count_by (λ (t : Tie). t.dimension == d) query.ties ≡ 0 = ap (λ n. count_by (λ (t : Tie). t.dimension == n) query.ties) same ∙ no-tie in
           let product : count_by (λ (t : Tie). t.dimension == d) query.ties * of_keys d ≡ 0 * of_keys d = ap (λ n. n * of_keys d) none in
           let here : length (selected_rows query scope tables query.fact) * places_in query query.fact ≡ length (selected_if true query scope tables d) * places_in query d =
-              ap (λ c. length (selected_if c query scope tables query.fact) * places_in query query.fact) (eq-eqb query.fact query.fact refl) ∙ ap (λ n. length (selected_if true query scope tables n) * places_in query n) (sym same) in
+          ap (λ c. length (selected_if c query scope tables query.fact) * places_in query query.fact) (eq-eqb query.fact query.fact refl) ∙ ap (λ n. length (selected_if true query scope tables n) * places_in query n) (sym same) in
           omega (arith, few, product, here)
       by false e k =
           let one : count_by (λ (t : Tie). t.dimension == d) query.ties ≡ 1 = eqb-true (count_by (λ (t : Tie). t.dimension == d) query.ties) 1 k in
@@ -261,8 +261,8 @@ module _ (query : Query) (scope : Scope) (tables : List (List Row)) (within : qu
       let keys = ties-sum of_keys scope query.ties dimensions in
       let added = add-at query.fact most 0 query.fact (λ (p : ℕ × FromEntry). count_by (λ (t : Tie). t.dimension == p.0) query.ties * of_keys p.0) scope (omega arith) within in
       let less = sum-where (λ (p : ℕ × FromEntry). p.0 == query.fact || count_by (λ (t : Tie). t.dimension == p.0) query.ties == 1)
-          (λ (p : ℕ × FromEntry). count_by (λ (t : Tie). t.dimension == p.0) query.ties * of_keys p.0 + cond (p.0 == query.fact) most 0)
-          (λ (p : ℕ × FromEntry). length (selected_rows query scope tables p.0) * places_in query p.0) (λ p h. one-table most few p.0 h) (numbered scope) counted in
+      (λ (p : ℕ × FromEntry). count_by (λ (t : Tie). t.dimension == p.0) query.ties * of_keys p.0 + cond (p.0 == query.fact) most 0)
+      (λ (p : ℕ × FromEntry). length (selected_rows query scope tables p.0) * places_in query p.0) (λ p h. one-table most few p.0 h) (numbered scope) counted in
       omega (arith, keys, added, less)
 
 -- ---- over images
@@ -289,13 +289,13 @@ decodes_add_up shaped by_codes named schemas s images image has here =
     let shape = shaped schemas s has.formed has.free in
     let cells = (valid_parts image (all-place is_valid images query.fact image has.valid here)).cells in
     let rows : selected_rows query scope tables query.fact ≡ flat_map (selected_in image) (fact_cells image query keys) ++ fact_rest image query keys =
-        ap (λ c. selected_if c query scope tables query.fact) (eq-eqb query.fact query.fact refl)
-        ∙ ap (filter (is_selected query keys)) (rows-at images query.fact image here)
-        ∙ rows-selected by_codes image query keys (named schemas s images image has here) cells in
+    ap (λ c. selected_if c query scope tables query.fact) (eq-eqb query.fact query.fact refl)
+    ∙ ap (filter (is_selected query keys)) (rows-at images query.fact image here)
+    ∙ rows-selected by_codes image query keys (named schemas s images image has here) cells in
     let long : length (selected_rows query scope tables query.fact) ≡ length (flat_map (selected_in image) (fact_cells image query keys)) + length (fact_rest image query keys) =
-        ap (λ (l : List Row). length l) rows ∙ length-append (flat_map (selected_in image) (fact_cells image query keys)) (fact_rest image query keys) in
+    ap (λ (l : List Row). length l) rows ∙ length-append (flat_map (selected_in image) (fact_cells image query keys)) (fact_rest image query keys) in
     let count = cells-long image (fact_cells image query keys) in
     let few = mul-le (sum_by (λ (cell : CellImage × List (List ℕ)). length cell.1) (fact_cells image query keys)) (fact_value_picks (plan_of query) + fact_key_picks (plan_of query))
-        (length (selected_rows query scope tables query.fact)) (places_in query query.fact) (omega (arith, long, count)) (fact-places query) in
+    (length (selected_rows query scope tables query.fact)) (places_in query query.fact) (omega (arith, long, count)) (fact-places query) in
     let all = sums-within query scope tables shape.fact shape.ties (tables-tied schemas s has.free) (group_decodes image query keys) few in
     omega (arith, all, keys-long query scope tables)

@@ -67,9 +67,12 @@ module _ (scope : Scope) (s : Select) (fact : ℕ) (a : Accepted scope s fact) (
   -- a table at its place, with its rows
   part-at : (d : ℕ) → d < length scope → (e : FromEntry) × (slice_get (zip scope tables) d ≡ Some (e, slice_index_or tables d [])) × (slice_get scope d ≡ Some e) × IsPart scope fact ties own (d, (e, slice_index_or tables d []))
   part-at d l =
-      let (e, pair, here) = zip-place [] scope tables d sized l in
-      (e, pair, here,
-      subst (λ n. IsPart scope fact ties own (n, (e, slice_index_or tables d []))) (omega arith) (each-place (IsPart scope fact ties own) 0 (zip scope tables) d (e, slice_index_or tables d []) (parts scope s fact a tables sized held) pair))
+      let (e, pair, here) = zip-place [] scope tables d sized l in (
+        e,
+        pair,
+        here,
+        subst (λ n. IsPart scope fact ties own (n, (e, slice_index_or tables d []))) (omega arith) (each-place (IsPart scope fact ties own) 0 (zip scope tables) d (e, slice_index_or tables d []) (parts scope s fact a tables sized held) pair),
+      )
 
   -- the tie of a dimension, and its place
   pub tie-at : (d : ℕ) → (d == fact) ≡ false → d < length scope → (t : Tie) × (slice_get ties (tie_place query d) ≡ Some t) × (t.dimension ≡ d)

@@ -89,10 +89,10 @@ selects_by_conjunctions query keys row =
     let joined : Bool = has_keys (tied_columns query) keys row in
     any-and (passes row) joined (filters_at query query.fact)
     ∙ any-alike (λ c. passes row c && joined) (λ c. passes_tests (fact_tests query keys c) row)
-      (λ c. sym (all-put-pass row (conjunction_tests c) (key_tests query keys)
-      ∙ (λ i. list_all-map (holds row) (λ (t : ColumnTest). record { column = t.column; holds = λ v. tree_holds v t.tree }) c.tests i
-      && list_all-map (holds row) (λ (p : ℕ × Keyed). record { column = p.0; holds = is_key p.1 }) (zip (tied_columns query) keys) i)))
-      (filters_at query query.fact)
+    (λ c. sym (all-put-pass row (conjunction_tests c) (key_tests query keys)
+    ∙ (λ i. list_all-map (holds row) (λ (t : ColumnTest). record { column = t.column; holds = λ v. tree_holds v t.tree }) c.tests i
+    && list_all-map (holds row) (λ (p : ℕ × Keyed). record { column = p.0; holds = is_key p.1 }) (zip (tied_columns query) keys) i)))
+    (filters_at query query.fact)
 
 -- ---- which columns are tested
 

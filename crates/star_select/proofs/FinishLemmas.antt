@@ -64,7 +64,7 @@ slots-in-range : (query : Query) → IsGrouped query → (plain : Bool) → is_p
 slots-in-range query grouping true e =
     list_all-map (in_range (length (keys_if true query)) 1) (λ (p : ℕ × BoundItem). slot.Key p.0) (numbered_from 0 query.items)
     ∙ all-numbered (λ n (x : BoundItem). nat_lt n (length (keys_if true query))) 0 query.items
-      (λ n x l. lt-ltb n (length (keys_if true query)) (let long = length-map query.items (item_pick query) in omega (arith, l, long)))
+    (λ n x l. lt-ltb n (length (keys_if true query)) (let long = length-map query.items (item_pick query) in omega (arith, l, long)))
 slots-in-range query grouping false e =
     let some : (query.grouped || has_total query) ≡ true = not-not (query.grouped || has_total query) e in
     let keys : length (keys_if false query) ≡ length query.groups = length-map query.groups (pick_of query) in
@@ -72,7 +72,7 @@ slots-in-range query grouping false e =
     (λ i. list_all (in_range (keys i) (measures i)) (slots_if false query))
     ∙ list_all-map (in_range (length query.groups) (1 + length query.items)) (λ (p : ℕ × BoundItem). slot_of query.groups p.0 p.1) (numbered_from 1 query.items)
     ∙ all-numbered-where (λ n i. in_range (length query.groups) (1 + length query.items) (slot_of query.groups n i)) (stands_in query.groups) 1 query.items (grouping.stand some)
-      (λ n i l h. slot-in-range query.groups (length query.items) n i l h)
+    (λ n i l h. slot-in-range query.groups (length query.items) n i l h)
   where
     not-not : (a : Bool) → not a ≡ false → a ≡ true
     not-not true k = refl

@@ -59,10 +59,10 @@ module _ {A M P F : Type 0} (g : A → M) (q : A → P) (h : M → P → A → F
       let further : length (ps ++ q x ∷ []) ≡ n + 1 = length-append ps (q x ∷ []) ∙ ap (λ j. j + 1) k in
       let rest = at-places xs (ms ++ g x ∷ []) (ps ++ q x ∷ []) (n + 1) longer further in
       let moved : map (λ p. h (slice_index_or (ms ++ g x ∷ map g xs) p.0 dm) (slice_index_or (ps ++ q x ∷ map q xs) p.0 dp) p.1) (numbered_from (n + 1) xs)
-          ≡ map (λ p. h (slice_index_or ((ms ++ g x ∷ []) ++ map g xs) p.0 dm) (slice_index_or ((ps ++ q x ∷ []) ++ map q xs) p.0 dp) p.1) (numbered_from (n + 1) xs)
-          = λ i. map (λ (p : ℕ × A). h (slice_index_or (sym (append_assoc ms (g x ∷ []) (map g xs)) i) p.0 dm) (slice_index_or (sym (append_assoc ps (q x ∷ []) (map q xs)) i) p.0 dp) p.1) (numbered_from (n + 1) xs) in
+      ≡ map (λ p. h (slice_index_or ((ms ++ g x ∷ []) ++ map g xs) p.0 dm) (slice_index_or ((ps ++ q x ∷ []) ++ map q xs) p.0 dp) p.1) (numbered_from (n + 1) xs)
+      = λ i. map (λ (p : ℕ × A). h (slice_index_or (sym (append_assoc ms (g x ∷ []) (map g xs)) i) p.0 dm) (slice_index_or (sym (append_assoc ps (q x ∷ []) (map q xs)) i) p.0 dp) p.1) (numbered_from (n + 1) xs) in
       let first : h (slice_index_or (ms ++ g x ∷ map g xs) n dm) (slice_index_or (ps ++ q x ∷ map q xs) n dp) x ≡ h (g x) (q x) x
-          = λ i. h (seam ms (g x) (map g xs) dm n e i) (seam ps (q x) (map q xs) dp n k i) x in
+      = λ i. h (seam ms (g x) (map g xs) dm n e i) (seam ps (q x) (map q xs) dp n k i) x in
       let whole = moved ∙ rest in
       λ i. first i ∷ whole i
 
@@ -129,10 +129,10 @@ line-shown query key rows =
     let measures : List Measure = measures_if false query in
     map-map (slot_field measures (key, parts_over measures rows)) (λ (p : ℕ × BoundItem). slot_of query.groups p.0 p.1) (numbered_from 1 query.items)
     ∙ map-alike (λ (p : ℕ × BoundItem). slot_field measures (key, parts_over measures rows) (slot_of query.groups p.0 p.1))
-      (λ p. shown query.groups key (slice_index_or measures p.0 measure.Count) (slice_index_or (parts_over measures rows) p.0 no_part) p.1)
-      (λ p. slot-shown query.groups measures key (parts_over measures rows) p.0 p.1) (numbered_from 1 query.items)
+    (λ p. shown query.groups key (slice_index_or measures p.0 measure.Count) (slice_index_or (parts_over measures rows) p.0 no_part) p.1)
+    (λ p. slot-shown query.groups measures key (parts_over measures rows) p.0 p.1) (numbered_from 1 query.items)
     ∙ ap (λ (ps : List Part). map (λ (p : ℕ × BoundItem). shown query.groups key (slice_index_or measures p.0 measure.Count) (slice_index_or (part_over measure.Count rows ∷ ps) p.0 no_part) p.1) (numbered_from 1 query.items))
-      (map-map (λ m. part_over m rows) (measure_of query) query.items)
+    (map-map (λ m. part_over m rows) (measure_of query) query.items)
     ∙ at-places (measure_of query) (λ i. part_over (measure_of query i) rows) (shown query.groups key) measure.Count no_part query.items (measure.Count ∷ []) (part_over measure.Count rows ∷ []) 1 refl refl
 
 -- by columns whose picks are their values

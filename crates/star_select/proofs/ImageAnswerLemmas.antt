@@ -114,8 +114,8 @@ module _ (scope : Scope) (query : Query) (shape : HasShape scope query) (entry :
       let size : column_count scope query.fact ≡ columns = ap (λ (o : Option FromEntry). option_map_or (λ x. length x.schema.columns) o 0) here ∙ sym many in
       list_all-map (λ k. nat_lt k columns) (λ (t : Tie). t.column) query.ties
       ∙ all-imply (is_tie scope query.fact) (λ (t : Tie). nat_lt t.column columns)
-        (λ t h. ap (λ n. nat_lt t.column n) (sym size)
-        ∙ (both (nat_lt t.column (column_count scope query.fact)) (not (t.dimension == query.fact)) (both (nat_lt t.column (column_count scope query.fact) && not (t.dimension == query.fact)) _ h).0).0) query.ties shape.ties
+      (λ t h. ap (λ n. nat_lt t.column n) (sym size)
+      ∙ (both (nat_lt t.column (column_count scope query.fact)) (not (t.dimension == query.fact)) (both (nat_lt t.column (column_count scope query.fact) && not (t.dimension == query.fact)) _ h).0).0) query.ties shape.ties
 
 pub fact_named : QueriesHaveShape → FactNamed
 fact_named shaped schemas s images image has here =
@@ -148,6 +148,6 @@ answers_by_codes by_groups by_codes grouped asked named schemas s images image h
     let groups = grouped image (plan_of query) keys (fact_cells image query keys) (fact_rest image query keys) names.as_many names.ties (cells-joined by_codes image query keys names image.cells cells) in
     let rows : slice_index_or (rows_in images) query.fact [] ≡ rows_of image = rows-at images query.fact image here in
     let order : Rearranged (filter (is_selected query keys) (slice_index_or (rows_in images) query.fact [])) groups.0 =
-        subst (λ (l : List Row). Rearranged l groups.0) (sym (ap (filter (is_selected query keys)) rows ∙ rows-selected by_codes image query keys names cells)) groups.1 in
+    subst (λ (l : List Row). Rearranged l groups.0) (sym (ap (filter (is_selected query keys)) rows ∙ rows-selected by_codes image query keys names cells)) groups.1 in
     by_groups schemas s (rows_in images) (asked schemas s images has) groups.0 order
     ∙ ap (answer_of_groups query) (sym groups.2)

@@ -53,10 +53,10 @@ pages_are_joined by_codes named sums schemas s images image cell page has here l
     let row : List ℕ → Row = decoded_row image.columns (cell_at image cell).classes in
     let good : List ℕ → Bool = λ codes. are_codes image.columns (cell_at image cell).classes codes && fits image.schema (row codes) in
     let rows = in-page good (cell_at image cell).rows (page * PAGE_ROWS) PAGE_ROWS
-        (all_both (are_codes image.columns (cell_at image cell).classes) (λ codes. fits image.schema (row codes)) (cell_at image cell).rows parts.1 (cell-fits image cell valid l)) in
+    (all_both (are_codes image.columns (cell_at image cell).classes) (λ codes. fits image.schema (row codes)) (cell_at image cell).rows parts.1 (cell-fits image cell valid l)) in
     let names = named schemas s images image has here in
     let selected : (codes : List ℕ) → are_codes image.columns (cell_at image cell).classes codes ≡ true → codes_selected image.columns (cell_at image cell).classes query keys codes ≡ true → is_selected query keys (row codes) ≡ true
-        = λ codes g c. sym (by_codes image.columns (cell_at image cell).classes codes query keys parts.0 g names) ∙ c in
+    = λ codes g c. sym (by_codes image.columns (cell_at image cell).classes codes query keys parts.0 g names) ∙ c in
     record {
       joined = filter-good good (codes_selected image.columns (cell_at image cell).classes query keys) (λ codes. has_keys (tied_columns query) keys (row codes))
           (λ codes w c.

@@ -180,12 +180,15 @@ ties_have_dimensions shaped schemas s images place tie has at =
     by (Some entry) e k all =
         let (image, here, same) = image-at (scope_of schemas s) images has.same tie.dimension entry e in
         let many : length image.columns ≡ length entry.schema.columns = columns-as-many image (all-place is_valid images tie.dimension image has.valid here) ∙ ap (λ (x : Schema). length x.columns) same in
-        let wanted = ap (λ n. list_all (λ c. nat_lt c n) (wanted_columns (query_of schemas s) tie.dimension)) many ∙ wanted-there (scope_of schemas s) (query_of schemas s) tie.dimension entry e all in
-        (image, here, record {
-          key = key-some image.schema.key (ap (λ (x : Schema). is_some x.key) same ∙ k);
-          column = ap (λ (o : Option FromEntry). option_map_or (λ x. key_in x.schema.key) o 0) e ∙ ap (λ (x : Schema). key_in x.key) (sym same) ∙ key-column image.schema.key;
-          wanted = λ i d l. ltb-true (get_or (wanted_columns (query_of schemas s) tie.dimension) i d) (length image.columns) (all_at (λ c. nat_lt c (length image.columns)) (wanted_columns (query_of schemas s) tie.dimension) i d wanted l);
-        })
+        let wanted = ap (λ n. list_all (λ c. nat_lt c n) (wanted_columns (query_of schemas s) tie.dimension)) many ∙ wanted-there (scope_of schemas s) (query_of schemas s) tie.dimension entry e all in (
+          image,
+          here,
+          record {
+            key = key-some image.schema.key (ap (λ (x : Schema). is_some x.key) same ∙ k);
+            column = ap (λ (o : Option FromEntry). option_map_or (λ x. key_in x.schema.key) o 0) e ∙ ap (λ (x : Schema). key_in x.key) (sym same) ∙ key-column image.schema.key;
+            wanted = λ i d l. ltb-true (get_or (wanted_columns (query_of schemas s) tie.dimension) i d) (length image.columns) (all_at (λ c. nat_lt c (length image.columns)) (wanted_columns (query_of schemas s) tie.dimension) i d wanted l);
+          },
+        )
 
 -- ---- tests
 

@@ -35,7 +35,7 @@ conditions_are_there shaped schemas s images image table has here =
     let (entry, at, same) = entry-same scope images has.same table image here in
     let (e, pair, there) = zip-place [] scope query.filters table shape.as_many (slice_get_within scope table entry at) in
     let many : length image.columns ≡ length e.schema.columns =
-        columns-as-many image (all-place is_valid images table image has.valid here) ∙ ap (λ (x : Schema). length x.columns) same ∙ ap (λ (x : FromEntry). length x.schema.columns) (some-same entry e (sym at ∙ there)) in
+    columns-as-many image (all-place is_valid images table image has.valid here) ∙ ap (λ (x : Schema). length x.columns) same ∙ ap (λ (x : FromEntry). length x.schema.columns) (some-same entry e (sym at ∙ there)) in
     ap (λ n. is_condition_on n (filters_at query table)) many ∙ all-place (λ p. is_condition_on (length p.0.schema.columns) p.1) (zip scope query.filters) table (e, filters_at query table) shape.filters pair
 
 -- the conjunctions of a condition are of columns that are there
@@ -50,7 +50,7 @@ image-rows : WantedByCodes → (image : TableImage) (query : Query) (table : ℕ
 image-rows by_codes image query table cells named =
     filter-append (is_wanted query table) (flat_map (cell_rows image) image.cells) image.rest
     ∙ ap (λ (l : List Row). l ++ filter (is_wanted query table) image.rest)
-      (cells-passing image (is_wanted query table) (λ cell. codes_wanted image.columns cell.classes query table) (λ cell codes full good. by_codes image.columns cell.classes codes query table full good named) image.cells cells)
+    (cells-passing image (is_wanted query table) (λ cell. codes_wanted image.columns cell.classes query table) (λ cell codes full good. by_codes image.columns cell.classes codes query table full good named) image.cells cells)
 
 pub keys_by_codes : WantedByCodes → ConditionsAreThere → TiesHaveDimensions → KeysByCodes
 keys_by_codes by_codes conditions dimensions schemas s images image place tie has at here =
@@ -60,5 +60,5 @@ keys_by_codes by_codes conditions dimensions schemas s images image place tie ha
     let cells = (valid_parts image (all-place is_valid images tie.dimension image has.valid here)).cells in
     let named = conjunctions-named (length image.columns) (filters_at query tie.dimension) (conditions schemas s images image tie.dimension has here) in
     let rows : wanted_rows query (rows_in images) tie.dimension ≡ image_wanted image query tie.dimension =
-        ap (filter (is_wanted query tie.dimension)) (rows-at images tie.dimension image here) ∙ image-rows by_codes image query tie.dimension cells named in
+    ap (filter (is_wanted query tie.dimension)) (rows-at images tie.dimension image here) ∙ image-rows by_codes image query tie.dimension cells named in
     λ i. map (entry_of (key i) (wanted_columns query tie.dimension)) (rows i)
