@@ -1,12 +1,11 @@
 -- The codes of a row of the fact are selected exactly where the row that they stand for is.
-use Rattle.std.proofs.Common.{◌≡◌, ◌==◌, ℕ, pos, Bool, true, false, ◌&&◌, ◌||◌, List, [], ◌∷◌, ◌++◌, map, filter, length, nat_lt, refl, sym, ap, ◌∙◌}
+use Rattle.std.proofs.Common.{◌≡◌, ◌==◌, ℕ, Bool, true, false, ◌&&◌, ◌||◌, List, [], ◌∷◌, ◌++◌, map, filter, length, nat_lt, refl, sym, ap, ◌∙◌}
 use Rattle.std.specs.List.{list_any, list_all, flat_map, zip}
 use Rattle.std.proofs.lemmas.Bool.{eqb-true, eq-eqb}
 use Rattle.std.proofs.lemmas.List.Elements.{filter-append}
 use Rattle.blink_base.specs.Values.{Row}
 use Rattle.blink_lists.proofs.GroupLemmas.{both, and_both}
 use Rattle.blink_lists.proofs.ProductLemmas.{filter-map}
-use Rattle.star_bind.specs.declared.query.Conjunction.{Conjunction}
 use Rattle.star_bind.specs.declared.query.Query.{Query}
 use Rattle.star_bind.specs.Conjunctions.{passes}
 use Rattle.star_bind.specs.Joins.{filters_at, is_wanted}
@@ -18,7 +17,7 @@ use Rattle.cell_scan.specs.ValueTests.{passes_tests, sets_in, SetsAreTests}
 use Rattle.code_join.specs.Keys.{Keyed}
 use Rattle.code_group.specs.Entries.{has_keys}
 use Rattle.code_group.specs.GroupLaws.{is_joined, are_joined, selected_in}
-use Rattle.star_select.specs.CodeSelection.{conjunction_tests, fact_tests, codes_selected, codes_wanted, fact_cells, fact_rest, is_of_columns, NamesFact, SelectsByConjunctions, SelectsByCodes, WantedByCodes}
+use Rattle.star_select.specs.CodeSelection.{conjunction_tests, fact_tests, codes_selected, fact_cells, fact_rest, is_of_columns, NamesFact, SelectsByConjunctions, SelectsByCodes, WantedByCodes}
 use Rattle.star_select.specs.KeySets.{is_selected}
 use Rattle.star_select.specs.Picks.{tied_columns}
 use Rattle.star_select.specs.QueryPlan.{plan_of}

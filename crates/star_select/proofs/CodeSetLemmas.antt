@@ -1,11 +1,9 @@
 -- Sets of codes of a class: those in two sets, and none where one is empty.
-use Rattle.std.proofs.Common.{◌≡◌, ◌<◌, ◌≤◌, ◌==◌, ◌+◌, ℕ, suc, Bool, true, false, not, ◌&&◌, ◌||◌, List, [], ◌∷◌, map, filter, length, slice_index_or, cond, refl, sym, ap, ◌∙◌, true≢false, arith}
-use Rattle.std.specs.List.{list_any, list_all}
+use Rattle.std.proofs.Common.{◌≡◌, ◌<◌, ◌==◌, ◌+◌, ℕ, Bool, true, false, ◌&&◌, ◌||◌, List, [], ◌∷◌, map, filter, length, slice_index_or, cond, refl, sym, ap, ◌∙◌, true≢false, arith}
+use Rattle.std.specs.List.{list_any}
 use Rattle.std.proofs.lemmas.Bool.{ne_eqb, eq-eqb, eqb-true}
 use Rattle.blink_base.specs.declared.value.Value.{Value}
 use Rattle.blink_lists.specs.Lists.{numbered_from}
-use Rattle.blink_lists.proofs.GroupLemmas.{neither}
-use Rattle.order_codes.specs.Dictionary.{codes_where}
 use Rattle.page_synopsis.specs.Runs.{in_both}
 use Rattle.cell_scan.specs.Match.{CodeSet, is_in, passes_all}
 use Rattle.star_select.specs.Preconditions.{SetsMeet, EmptySetsPassNone}

@@ -1,5 +1,5 @@
 -- What the calls of a query decode is no more than the query may.
-use Rattle.std.proofs.Common.{◌≡◌, ◌<◌, ◌≤◌, ◌==◌, ◌+◌, ◌*◌, ℕ, zero, suc, Bool, true, false, not, ◌&&◌, ◌||◌, List, [], ◌∷◌, ◌++◌, map, filter, flat_map, length, count_by, nat_lt, slice_get, slice_index_or, Option, Some, None, cond, refl, sym, ap, ◌∙◌, subst, true≢false, arith, length-append}
+use Rattle.std.proofs.Common.{◌≡◌, ◌<◌, ◌≤◌, ◌==◌, ◌+◌, ◌*◌, ℕ, zero, suc, Bool, true, false, not, ◌&&◌, ◌||◌, List, [], ◌∷◌, ◌++◌, map, filter, flat_map, length, count_by, nat_lt, slice_get, Option, Some, None, cond, refl, sym, ap, ◌∙◌, subst, true≢false, arith, length-append}
 use Rattle.std.specs.Prelude.{sum_by}
 use Rattle.std.specs.List.{list_any, list_all}
 use Rattle.std.specs.Option.{option_map_or, is_some}
@@ -10,7 +10,7 @@ use Rattle.std.proofs.lemmas.List.Sums.{sum_by-cons, sum_by-append, sum_by-le-su
 use Rattle.std.proofs.lemmas.Nat.{mul-le}
 use Rattle.std.proofs.lemmas.Option.{slice_get_within}
 use Rattle.blink_base.specs.Values.{Row}
-use Rattle.blink_lists.specs.Lists.{numbered, numbered_from, once_each}
+use Rattle.blink_lists.specs.Lists.{numbered, numbered_from}
 use Rattle.blink_lists.proofs.DistinctLemmas.{length-once_each-le}
 use Rattle.blink_lists.proofs.GroupLemmas.{both, neither, all-imply}
 use Rattle.blink_lists.proofs.SumLemmas.{count-map}
@@ -25,21 +25,20 @@ use Rattle.star_bind.specs.declared.query.Query.{Query}
 use Rattle.star_bind.specs.declared.query.Tie.{Tie}
 use Rattle.star_bind.specs.BoundAnswer.{is_total}
 use Rattle.star_bind.specs.BoundQuery.{Schemas, scope_of, first_refusal, query_of}
-use Rattle.star_bind.specs.QueryShape.{column_count, is_tie, HasShape, QueriesHaveShape}
+use Rattle.star_bind.specs.QueryShape.{column_count, is_tie, QueriesHaveShape}
 use Rattle.star_bind.proofs.AcceptanceLemmas.{accepted, scope_accepted}
 use Rattle.star_bind.proofs.FactRowLemmas.{query-is}
-use Rattle.cell_layout.specs.Image.{TableImage, CellImage, decoded_row, rows_of}
+use Rattle.cell_layout.specs.Image.{TableImage, CellImage, decoded_row}
 use Rattle.cell_layout.specs.Valid.{is_valid}
 use Rattle.cell_layout.proofs.PlacedImageLemmas.{valid_parts}
 use Rattle.code_join.specs.Keys.{Keyed}
 use Rattle.code_group.specs.GroupLaws.{selected_in}
 use Rattle.code_group.specs.Plans.{formula_picks, measure_picks, is_of_fact, fact_picks, fact_key_picks, fact_value_picks}
 use Rattle.dim_filter.specs.Entries.{entry_of}
-use Rattle.late_decode.specs.declared.plan.Pick.{Pick}
 use Rattle.star_select.specs.CodeSelection.{fact_cells, fact_rest, SelectsByCodes}
 use Rattle.star_select.specs.Decodes.{selected_if, selected_rows, key_places, places_in, most_decodes, key_decodes, group_decodes, DecodesAddUp}
-use Rattle.star_select.specs.ImageAnswer.{rows_in, image_keys, HasImages, FactNamed}
-use Rattle.star_select.specs.KeySets.{wanted_rows, keyed_of, key_maps, is_selected}
+use Rattle.star_select.specs.ImageAnswer.{rows_in, image_keys, FactNamed}
+use Rattle.star_select.specs.KeySets.{wanted_rows, is_selected}
 use Rattle.star_select.specs.Picks.{expr_refs, item_refs, named_refs, wanted_columns, pick_if, pick_of}
 use Rattle.star_select.specs.QueryPlan.{has_total, is_plain, formula_of, measure_of, item_pick, keys_if, measures_if, plan_of}
 use Rattle.star_bind.specs.Joins.{key_at}

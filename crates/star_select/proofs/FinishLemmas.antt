@@ -1,22 +1,19 @@
 -- How a query's groups give lines is in range of groups by its plan.
-use Rattle.std.proofs.Common.{◌≡◌, ◌<◌, ◌≤◌, ◌==◌, ◌+◌, ℕ, suc, Bool, true, false, not, ◌&&◌, ◌||◌, List, [], ◌∷◌, map, length, nat_lt, slice_get, Some, refl, sym, ap, ◌∙◌, subst, true≢false, arith}
-use Rattle.std.specs.List.{list_all, list_any, position_or_len}
+use Rattle.std.proofs.Common.{◌≡◌, ◌<◌, ◌==◌, ◌+◌, ℕ, Bool, true, false, not, ◌||◌, List, [], ◌∷◌, map, length, nat_lt, refl, sym, ap, ◌∙◌, true≢false, arith}
+use Rattle.std.specs.List.{list_all, list_any}
 use Rattle.std.proofs.lemmas.Bool.{eqb-true, lt-ltb}
 use Rattle.std.proofs.lemmas.List.{length-map}
 use Rattle.std.proofs.lemmas.List.Folds.{find_at, list_all-map}
 use Rattle.std.proofs.lemmas.Option.{slice_get_within}
 use Rattle.blink_base.specs.Values.{Row}
 use Rattle.blink_lists.specs.Lists.{numbered_from}
-use Rattle.blink_lists.proofs.BoolLemmas.{all_both}
-use Rattle.blink_lists.proofs.ChoiceLemmas.{any-map}
-use Rattle.blink_lists.proofs.GroupLemmas.{both, and_both, all-imply, neither}
+use Rattle.blink_lists.proofs.GroupLemmas.{both, and_both, all-imply}
 use Rattle.star_bind.specs.declared.query.ColumnRef.{ColumnRef}
 use Rattle.star_bind.specs.declared.query.BoundItem.{BoundItem}
 use Rattle.star_bind.specs.declared.query.BoundItem.TheVariants.{Column, Count, Sum, Average, Least, Greatest}
 use Rattle.star_bind.specs.declared.query.Query.{Query}
 use Rattle.star_bind.specs.BoundAnswer.{is_total}
 use Rattle.star_bind.specs.BoundQuery.{query_of}
-use Rattle.code_group.specs.Plans.{are_of_plan}
 use Rattle.late_decode.specs.declared.plan.Measure.{Measure}
 use Rattle.late_decode.specs.declared.plan.Part.{Part}
 use Rattle.late_decode.specs.declared.plan.Slot.{Slot}
@@ -25,7 +22,7 @@ use Rattle.late_decode.specs.Bounds.{are_groups, counts_first, is_key_slot, meas
 use Rattle.late_decode.specs.Groups.{Grouped}
 use Rattle.star_select.specs.GroupAnswer.{stands_in, IsGrouped, QueriesAreGrouped}
 use Rattle.star_select.specs.Picks.{same_ref, pick_of}
-use Rattle.star_select.specs.Preconditions.{CanFinish, GroupsCanFinish}
+use Rattle.star_select.specs.Preconditions.{GroupsCanFinish}
 use Rattle.star_select.specs.QueryPlan.{has_total, is_plain, is_single, item_pick, keys_if, measures_if, group_place, slot_of, slots_if, plan_of, finish_of}
 use Rattle.star_select.specs.QueryPlan.{measure_of}
 use Rattle.star_select.proofs.QueryLineLemmas.{all-total}

@@ -1,5 +1,5 @@
 -- The answer to a query is that of the groups of the selected rows of its fact.
-use Rattle.std.proofs.Common.{◌≡◌, ◌<◌, ℕ, Bool, true, ◌&&◌, List, [], ◌∷◌, map, filter, length, Option, slice_index_or, refl, sym, ap, ◌∙◌, subst}
+use Rattle.std.proofs.Common.{◌≡◌, ◌<◌, ℕ, Bool, true, List, [], map, filter, length, Option, slice_index_or, refl, sym, ap, ◌∙◌, subst}
 use Rattle.std.specs.Prelude.{filter_map}
 use Rattle.std.specs.List.{list_all, list_any}
 use Rattle.std.specs.Option.{is_some}
@@ -11,7 +11,7 @@ use Rattle.blink_lists.specs.Rearrangement.{Rearranged}
 use Rattle.blink_lists.specs.Rearrangement.Rearranged.{followed}
 use Rattle.blink_lists.proofs.AllLemmas.{all-passing, all-rearranged}
 use Rattle.blink_lists.proofs.GroupLemmas.{both, filter-alike}
-use Rattle.blink_lists.proofs.ProductLemmas.{filter-map, is_one}
+use Rattle.blink_lists.proofs.ProductLemmas.{filter-map}
 use Rattle.star_sql.specs.declared.ast.Select.{Select}
 use Rattle.star_meaning.specs.Names.{Scope, Combination}
 use Rattle.star_meaning.specs.Answer.{answer}

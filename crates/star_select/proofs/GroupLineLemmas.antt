@@ -1,5 +1,5 @@
 -- The line that a group gives is that of its combinations.
-use Rattle.std.proofs.Common.{◌≡◌, ℕ, zero, suc, pos, ◌+◌, ◌==◌, Bool, true, false, not, ◌&&◌, ◌||◌, List, [], ◌∷◌, ◌++◌, map, filter, length, slice_index_or, Some, refl, sym, ap, ◌∙◌, true≢false, arith, append_assoc, length-append, ◌⊎◌, inl, inr}
+use Rattle.std.proofs.Common.{◌≡◌, ℕ, suc, pos, ◌+◌, ◌==◌, Bool, true, false, ◌&&◌, List, [], ◌∷◌, ◌++◌, map, length, slice_index_or, Some, refl, sym, ap, ◌∙◌, true≢false, arith, append_assoc, length-append, ◌⊎◌, inl, inr}
 use Rattle.std.specs.Option.{option_map_or}
 use Rattle.std.specs.List.{list_any, list_all, position_or_len}
 use Rattle.std.specs.Ordering.{is_le}
@@ -23,7 +23,6 @@ use Rattle.star_bind.specs.BoundAnswer.{ref_value, bound_value, bound_line, is_t
 use Rattle.late_decode.specs.declared.plan.Measure.{Measure}
 use Rattle.late_decode.specs.declared.plan.Measure.TheVariants as measure
 use Rattle.late_decode.specs.declared.plan.Part.{Part}
-use Rattle.late_decode.specs.declared.plan.Slot.{Slot}
 use Rattle.late_decode.specs.GroupLines.{measure_field, slot_field, group_line}
 use Rattle.late_decode.specs.Parts.{Picked, no_part, part_over, parts_over}
 use Rattle.star_select.specs.GroupAnswer.{stands_in}

@@ -1,12 +1,11 @@
 -- The answer to a query over images is that of the groups that the image of its fact gives.
-use Rattle.std.proofs.Common.{◌≡◌, ◌<◌, ◌==◌, ℕ, zero, suc, pos, Bool, true, false, not, ◌&&◌, List, [], ◌∷◌, ◌++◌, map, filter, length, nat_lt, nat_le, slice_get, slice_index_or, Option, Some, None, option_map, refl, sym, ap, ◌∙◌, subst, true≢false, arith}
-use Rattle.std.specs.Prelude.{count_by}
-use Rattle.std.specs.List.{list_all, zip, flat_map}
-use Rattle.std.specs.Option.{option_map_or, is_some}
+use Rattle.std.proofs.Common.{◌≡◌, ◌==◌, ℕ, zero, suc, true, not, ◌&&◌, List, [], ◌∷◌, map, filter, length, nat_lt, nat_le, slice_get, slice_index_or, Option, Some, None, refl, sym, ap, ◌∙◌, subst, arith}
+use Rattle.std.specs.List.{list_all, zip}
+use Rattle.std.specs.Option.{option_map_or}
 use Rattle.std.proofs.lemmas.Bool.{eqb-true}
 use Rattle.std.proofs.lemmas.List.{length-map}
 use Rattle.std.proofs.lemmas.List.Folds.{list_all-map}
-use Rattle.std.proofs.lemmas.Option.{slice_get-map, slice_get_within}
+use Rattle.std.proofs.lemmas.Option.{slice_get_within}
 use Rattle.blink_base.specs.declared.schema.Schema.{Schema}
 use Rattle.blink_base.specs.Values.{Row}
 use Rattle.blink_base.specs.RowFits.{fits}
@@ -23,13 +22,13 @@ use Rattle.star_bind.specs.Joins.{filters_at}
 use Rattle.star_bind.specs.Laws.{may_hold, has_own_keys}
 use Rattle.star_bind.specs.QueryShape.{column_count, is_tie, is_conjunction, is_condition_on, HasShape, QueriesHaveShape}
 use Rattle.cell_layout.specs.Image.{TableImage, rows_of}
-use Rattle.cell_layout.specs.Valid.{is_cell, is_valid, are_keyed}
-use Rattle.cell_layout.proofs.PlacedImageLemmas.{HasParts, valid_parts}
+use Rattle.cell_layout.specs.Valid.{is_valid, are_keyed}
+use Rattle.cell_layout.proofs.PlacedImageLemmas.{valid_parts}
 use Rattle.cell_layout.proofs.RowFitLemmas.{valid_fits}
-use Rattle.column_classes.specs.ColumnClasses.{are_column_classes, are_divided}
+use Rattle.column_classes.specs.ColumnClasses.{are_column_classes}
 use Rattle.code_join.specs.Keys.{Keyed}
-use Rattle.code_group.specs.GroupLaws.{selected_in, ImageGroups}
-use Rattle.star_select.specs.CodeSelection.{fact_cells, fact_rest, is_of_columns, NamesFact, SelectsByCodes}
+use Rattle.code_group.specs.GroupLaws.{ImageGroups}
+use Rattle.star_select.specs.CodeSelection.{fact_cells, fact_rest, is_of_columns, SelectsByCodes}
 use Rattle.star_select.specs.GroupAnswer.{answer_of_groups, AnswersByGroups}
 use Rattle.star_select.specs.ImageAnswer.{rows_in, image_keys, HasImages, ImagesMayBeAsked, FactNamed, AnswersByCodes}
 use Rattle.star_select.specs.KeySets.{keyed_of, is_selected}

@@ -1,5 +1,5 @@
 -- The selected rows of a page of the fact are joined, and what is summed of them is good whole numbers.
-use Rattle.std.proofs.Common.{◌≡◌, ◌<◌, ◌==◌, ◌*◌, ℕ, Bool, true, ◌&&◌, List, [], ◌++◌, map, filter, flat_map, take, drop, length, slice_get, slice_index_or, Some, refl, sym, ap, ◌∙◌}
+use Rattle.std.proofs.Common.{◌≡◌, ◌<◌, ◌*◌, ℕ, Bool, true, ◌&&◌, List, [], flat_map, take, drop, length, sym, ap, ◌∙◌}
 use Rattle.std.specs.List.{list_all}
 use Rattle.std.proofs.lemmas.List.{take-append-drop}
 use Rattle.std.proofs.lemmas.List.Folds.{list_all-append, list_all-map}
@@ -9,11 +9,10 @@ use Rattle.blink_lists.specs.declared.limits.TheConstants.{PAGE_ROWS}
 use Rattle.blink_lists.proofs.AllLemmas.{all_at, all-flat_map}
 use Rattle.blink_lists.proofs.BoolLemmas.{all_both}
 use Rattle.blink_lists.proofs.GroupLemmas.{both}
-use Rattle.star_sql.specs.declared.ast.Select.{Select}
 use Rattle.star_bind.specs.declared.query.Query.{Query}
 use Rattle.star_bind.specs.BoundQuery.{scope_of, query_of}
 use Rattle.star_bind.specs.Joins.{is_wanted}
-use Rattle.cell_layout.specs.Image.{TableImage, CellImage, cell_at, decoded_row, cell_rows}
+use Rattle.cell_layout.specs.Image.{TableImage, cell_at, decoded_row, cell_rows}
 use Rattle.cell_layout.specs.Valid.{are_codes, is_cell, is_valid}
 use Rattle.cell_layout.proofs.PlacedImageLemmas.{valid_parts}
 use Rattle.cell_layout.proofs.RowFitLemmas.{valid_fits}

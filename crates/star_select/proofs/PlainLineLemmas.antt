@@ -1,5 +1,5 @@
 -- Where a line stands for a row, groups give the lines of their rows, as often as there are rows.
-use Rattle.std.proofs.Common.{◌≡◌, ℕ, pos, ◌+◌, Bool, true, false, not, ◌&&◌, List, [], ◌∷◌, ◌++◌, map, length, slice_index_or, refl, sym, ap, ◌∙◌, subst, true≢false, append_assoc, length-append}
+use Rattle.std.proofs.Common.{◌≡◌, ℕ, pos, ◌+◌, Bool, true, not, ◌&&◌, List, [], ◌∷◌, ◌++◌, map, length, slice_index_or, refl, sym, ap, ◌∙◌, subst, true≢false, append_assoc, length-append}
 use Rattle.std.specs.Prelude.{replicate}
 use Rattle.std.specs.List.{list_all, flat_map}
 use Rattle.blink_base.specs.declared.value.Value.{Value}

@@ -1,5 +1,5 @@
 -- The lines of all groups are those of a bound query.
-use Rattle.std.proofs.Common.{◌≡◌, ℕ, Bool, true, false, not, ◌&&◌, ◌||◌, List, [], ◌∷◌, map, filter, refl, sym, ap, ◌∙◌, subst, true≢false, inl, inr}
+use Rattle.std.proofs.Common.{◌≡◌, Bool, true, false, not, ◌&&◌, ◌||◌, List, [], ◌∷◌, map, filter, refl, sym, ap, ◌∙◌, subst, true≢false, inl, inr}
 use Rattle.std.specs.List.{list_any, list_all}
 use Rattle.std.proofs.lemmas.List.Folds.{list_all-map}
 use Rattle.std.proofs.lemmas.List.Concat.{flat_map_single}
@@ -22,7 +22,6 @@ use Rattle.star_bind.specs.declared.query.Query.{Query}
 use Rattle.star_bind.specs.BoundAnswer.{ref_value, bound_key, bound_groups, bound_line, bound_answer, is_total}
 use Rattle.late_decode.specs.declared.plan.LineOrder.{LineOrder}
 use Rattle.late_decode.specs.declared.plan.Measure.{Measure}
-use Rattle.late_decode.specs.declared.plan.Part.{Part}
 use Rattle.late_decode.specs.declared.plan.Slot.{Slot}
 use Rattle.late_decode.specs.GroupLines.{group_line, lines_of, or_single, finished}
 use Rattle.late_decode.specs.Groups.{Grouped, grouped}
@@ -31,8 +30,8 @@ use Rattle.late_decode.specs.PlannedRows.{groups_by_plan}
 use Rattle.late_decode.specs.declared.plan.Measure.TheVariants as measure
 use Rattle.star_select.specs.GroupAnswer.{stands_in, IsGrouped, answer_of_groups}
 use Rattle.star_select.specs.Picks.{item_refs, pick_of}
-use Rattle.star_select.specs.QueryPlan.{has_total, is_plain, is_single, keys_if, measures_if, slots_if, plan_of, finish_of}
-use Rattle.star_select.proofs.GroupLineLemmas.{map-map, map-alike, map-where, key, is_of, is_right, group-line}
+use Rattle.star_select.specs.QueryPlan.{has_total, is_plain, is_single, keys_if, measures_if, slots_if, plan_of}
+use Rattle.star_select.proofs.GroupLineLemmas.{map-map, map-alike, map-where, key, is_right, group-line}
 use Rattle.star_select.proofs.ListLemmas.{all-pass, none-not, some-filtered, all-self}
 use Rattle.star_select.proofs.PlainLineLemmas.{plain-lines}
 

@@ -1,25 +1,24 @@
 -- The keys of a tie are those of the wanted rows of its dimension's image.
-use Rattle.std.proofs.Common.{◌≡◌, ◌<◌, ◌==◌, ℕ, Bool, true, ◌&&◌, List, [], ◌∷◌, ◌++◌, map, filter, length, nat_lt, nat_le, slice_get, slice_index_or, Some, refl, sym, ap, ◌∙◌}
+use Rattle.std.proofs.Common.{◌≡◌, ℕ, true, ◌&&◌, List, [], ◌++◌, map, filter, length, nat_lt, nat_le, sym, ap, ◌∙◌}
 use Rattle.std.specs.List.{list_all, zip, flat_map}
 use Rattle.std.proofs.lemmas.List.Elements.{filter-append}
 use Rattle.std.proofs.lemmas.Option.{slice_get_within}
 use Rattle.blink_base.specs.declared.schema.Schema.{Schema}
 use Rattle.blink_base.specs.Values.{Row}
 use Rattle.blink_lists.proofs.GroupLemmas.{both, all-imply}
-use Rattle.star_sql.specs.declared.ast.Select.{Select}
 use Rattle.star_meaning.specs.Names.{Scope, FromEntry}
 use Rattle.star_bind.specs.declared.query.Conjunction.{Conjunction}
 use Rattle.star_bind.specs.declared.query.Query.{Query}
 use Rattle.star_bind.specs.declared.limits.TheConstants.{MOST_CONJUNCTIONS}
-use Rattle.star_bind.specs.BoundQuery.{Schemas, scope_of, query_of}
+use Rattle.star_bind.specs.BoundQuery.{scope_of, query_of}
 use Rattle.star_bind.specs.Joins.{filters_at, is_wanted}
 use Rattle.star_bind.specs.QueryShape.{is_conjunction, is_condition_on, QueriesHaveShape}
-use Rattle.cell_layout.specs.Image.{TableImage, CellImage, cell_rows, rows_of}
+use Rattle.cell_layout.specs.Image.{TableImage, cell_rows, rows_of}
 use Rattle.cell_layout.specs.Valid.{is_cell, is_valid}
 use Rattle.cell_layout.proofs.PlacedImageLemmas.{valid_parts}
 use Rattle.dim_filter.specs.Entries.{entry_of, key_column}
 use Rattle.star_select.specs.CodeSelection.{codes_wanted, image_wanted, is_of_columns, WantedByCodes}
-use Rattle.star_select.specs.ImageAnswer.{rows_in, HasImages, KeysByCodes}
+use Rattle.star_select.specs.ImageAnswer.{rows_in, KeysByCodes}
 use Rattle.star_select.specs.KeySets.{wanted_rows}
 use Rattle.star_select.specs.Picks.{wanted_columns}
 use Rattle.star_select.specs.Preconditions.{ConditionsAreThere, TiesHaveDimensions}
