@@ -1,12 +1,11 @@
 -- The codes of a row of the fact are selected exactly where the row that they stand for is.
-use Rattle.std.proofs.Common.{◌≡◌, ◌==◌, ℕ, pos, Bool, true, false, ◌&&◌, ◌||◌, List, [], ◌∷◌, ◌++◌, map, filter, length, nat_lt, refl, sym, ap, ◌∙◌}
+use Rattle.std.proofs.Common.{◌≡◌, ◌==◌, ℕ, Bool, true, false, ◌&&◌, ◌||◌, List, [], ◌∷◌, ◌++◌, map, filter, length, nat_lt, refl, sym, ap, ◌∙◌}
 use Rattle.std.specs.List.{list_any, list_all, flat_map, zip}
 use Rattle.std.proofs.lemmas.Bool.{eqb-true, eq-eqb}
 use Rattle.std.proofs.lemmas.List.Elements.{filter-append}
 use Rattle.blink_base.specs.Values.{Row}
 use Rattle.blink_lists.proofs.GroupLemmas.{both, and_both}
 use Rattle.blink_lists.proofs.ProductLemmas.{filter-map}
-use Rattle.star_bind.specs.declared.query.Conjunction.{Conjunction}
 use Rattle.star_bind.specs.declared.query.Query.{Query}
 use Rattle.star_bind.specs.Conjunctions.{passes}
 use Rattle.star_bind.specs.Joins.{filters_at, is_wanted}
@@ -18,7 +17,7 @@ use Rattle.cell_scan.specs.ValueTests.{passes_tests, sets_in, SetsAreTests}
 use Rattle.code_join.specs.Keys.{Keyed}
 use Rattle.code_group.specs.Entries.{has_keys}
 use Rattle.code_group.specs.GroupLaws.{is_joined, are_joined, selected_in}
-use Rattle.star_select.specs.CodeSelection.{conjunction_tests, fact_tests, codes_selected, codes_wanted, fact_cells, fact_rest, is_of_columns, NamesFact, SelectsByConjunctions, SelectsByCodes, WantedByCodes}
+use Rattle.star_select.specs.CodeSelection.{conjunction_tests, fact_tests, codes_selected, fact_cells, fact_rest, is_of_columns, NamesFact, SelectsByConjunctions, SelectsByCodes, WantedByCodes}
 use Rattle.star_select.specs.KeySets.{is_selected}
 use Rattle.star_select.specs.Picks.{tied_columns}
 use Rattle.star_select.specs.QueryPlan.{plan_of}
@@ -49,7 +48,7 @@ pub selects_by_codes : SetsAreTests → SelectsByConjunctions → SelectsByCodes
 selects_by_codes sets conjunctions columns classes codes query keys full good names =
     let row : Row = decoded_row columns classes codes in
     any-where (is_of_columns (length columns)) (λ c. passes_all (sets_in columns classes (fact_tests query keys c)) codes) (λ c. passes_tests (fact_tests query keys c) row)
-      (λ c own. sets columns classes codes (fact_tests query keys c) full good (tests-named (length columns) query keys c own names.ties)) (filters_at query query.fact) names.conjunctions
+    (λ c own. sets columns classes codes (fact_tests query keys c) full good (tests-named (length columns) query keys c own names.ties)) (filters_at query query.fact) names.conjunctions
     ∙ sym (conjunctions query keys row)
 
 -- what is_cell says of class numbers and codes
@@ -76,8 +75,8 @@ module _ (image : TableImage) (p : Row → Bool) (q : CellImage → List ℕ →
       let b = both (is_cell image.columns cell) (list_all (is_cell image.columns) cells) h in
       let parts = cell-parts image.columns cell b.0 in
       let one : filter p (cell_rows image cell) ≡ map (decoded_row image.columns cell.classes) (filter (q cell) cell.rows) =
-          filter-map p (decoded_row image.columns cell.classes) cell.rows
-          ∙ ap (map (decoded_row image.columns cell.classes)) (filter-where (are_codes image.columns cell.classes) (λ codes. p (decoded_row image.columns cell.classes codes)) (q cell) (λ codes g. sym (same cell codes parts.0 g)) cell.rows parts.1) in
+      filter-map p (decoded_row image.columns cell.classes) cell.rows
+      ∙ ap (map (decoded_row image.columns cell.classes)) (filter-where (are_codes image.columns cell.classes) (λ codes. p (decoded_row image.columns cell.classes codes)) (q cell) (λ codes g. sym (same cell codes parts.0 g)) cell.rows parts.1) in
       filter-append p (cell_rows image cell) (flat_map (cell_rows image) cells) ∙ (λ i. one i ++ cells-passing cells b.1 i)
 
 module _ (by_codes : SelectsByCodes) (image : TableImage) (query : Query) (keys : List Keyed) (names : NamesFact (length image.columns) query keys) where

@@ -1,11 +1,9 @@
 -- Sets of codes of a class: those in two sets, and none where one is empty.
-use Rattle.std.proofs.Common.{◌≡◌, ◌<◌, ◌≤◌, ◌==◌, ◌+◌, ℕ, suc, Bool, true, false, not, ◌&&◌, ◌||◌, List, [], ◌∷◌, map, filter, length, slice_index_or, cond, refl, sym, ap, ◌∙◌, true≢false, arith}
-use Rattle.std.specs.List.{list_any, list_all}
+use Rattle.std.proofs.Common.{◌≡◌, ◌<◌, ◌==◌, ◌+◌, ℕ, Bool, true, false, ◌&&◌, ◌||◌, List, [], ◌∷◌, map, filter, length, slice_index_or, cond, refl, sym, ap, ◌∙◌, true≢false, arith}
+use Rattle.std.specs.List.{list_any}
 use Rattle.std.proofs.lemmas.Bool.{ne_eqb, eq-eqb, eqb-true}
 use Rattle.blink_base.specs.declared.value.Value.{Value}
 use Rattle.blink_lists.specs.Lists.{numbered_from}
-use Rattle.blink_lists.proofs.GroupLemmas.{neither}
-use Rattle.order_codes.specs.Dictionary.{codes_where}
 use Rattle.page_synopsis.specs.Runs.{in_both}
 use Rattle.cell_scan.specs.Match.{CodeSet, is_in, passes_all}
 use Rattle.star_select.specs.Preconditions.{SetsMeet, EmptySetsPassNone}
@@ -43,7 +41,7 @@ sets-meet p q from (v ∷ values) = by (p v) (q v) (sets-meet p q (from + 1) val
   where
     by : (b c : Bool) → in_both (codes_from p (from + 1) values) (codes_from q (from + 1) values) ≡ codes_from (λ v. p v && q v) (from + 1) values
         → in_both (map (λ r. r.0) (cond b ((from, v) ∷ filter (λ r. p r.1) (numbered_from (from + 1) values)) (filter (λ r. p r.1) (numbered_from (from + 1) values))))
-          (map (λ r. r.0) (cond c ((from, v) ∷ filter (λ r. q r.1) (numbered_from (from + 1) values)) (filter (λ r. q r.1) (numbered_from (from + 1) values))))
+        (map (λ r. r.0) (cond c ((from, v) ∷ filter (λ r. q r.1) (numbered_from (from + 1) values)) (filter (λ r. q r.1) (numbered_from (from + 1) values))))
         ≡ map (λ r. r.0) (cond (b && c) ((from, v) ∷ filter (λ r. p r.1 && q r.1) (numbered_from (from + 1) values)) (filter (λ r. p r.1 && q r.1) (numbered_from (from + 1) values)))
     by true true more =
         let here : (from == from) ≡ true = eq-eqb from from refl in

@@ -1,5 +1,5 @@
 -- What the calls of a query decode is no more than the query may.
-use Rattle.std.proofs.Common.{◌≡◌, ◌<◌, ◌≤◌, ◌==◌, ◌+◌, ◌*◌, ℕ, zero, suc, Bool, true, false, not, ◌&&◌, ◌||◌, List, [], ◌∷◌, ◌++◌, map, filter, flat_map, length, count_by, nat_lt, slice_get, slice_index_or, Option, Some, None, cond, refl, sym, ap, ◌∙◌, subst, true≢false, arith, length-append}
+use Rattle.std.proofs.Common.{◌≡◌, ◌<◌, ◌≤◌, ◌==◌, ◌+◌, ◌*◌, ℕ, zero, suc, Bool, true, false, not, ◌&&◌, ◌||◌, List, [], ◌∷◌, ◌++◌, map, filter, flat_map, length, count_by, nat_lt, slice_get, Option, Some, None, cond, refl, sym, ap, ◌∙◌, subst, true≢false, arith, length-append}
 use Rattle.std.specs.Prelude.{sum_by}
 use Rattle.std.specs.List.{list_any, list_all}
 use Rattle.std.specs.Option.{option_map_or, is_some}
@@ -10,7 +10,7 @@ use Rattle.std.proofs.lemmas.List.Sums.{sum_by-cons, sum_by-append, sum_by-le-su
 use Rattle.std.proofs.lemmas.Nat.{mul-le}
 use Rattle.std.proofs.lemmas.Option.{slice_get_within}
 use Rattle.blink_base.specs.Values.{Row}
-use Rattle.blink_lists.specs.Lists.{numbered, numbered_from, once_each}
+use Rattle.blink_lists.specs.Lists.{numbered, numbered_from}
 use Rattle.blink_lists.proofs.DistinctLemmas.{length-once_each-le}
 use Rattle.blink_lists.proofs.GroupLemmas.{both, neither, all-imply}
 use Rattle.blink_lists.proofs.SumLemmas.{count-map}
@@ -25,21 +25,20 @@ use Rattle.star_bind.specs.declared.query.Query.{Query}
 use Rattle.star_bind.specs.declared.query.Tie.{Tie}
 use Rattle.star_bind.specs.BoundAnswer.{is_total}
 use Rattle.star_bind.specs.BoundQuery.{Schemas, scope_of, first_refusal, query_of}
-use Rattle.star_bind.specs.QueryShape.{column_count, is_tie, HasShape, QueriesHaveShape}
+use Rattle.star_bind.specs.QueryShape.{column_count, is_tie, QueriesHaveShape}
 use Rattle.star_bind.proofs.AcceptanceLemmas.{accepted, scope_accepted}
 use Rattle.star_bind.proofs.FactRowLemmas.{query-is}
-use Rattle.cell_layout.specs.Image.{TableImage, CellImage, decoded_row, rows_of}
+use Rattle.cell_layout.specs.Image.{TableImage, CellImage, decoded_row}
 use Rattle.cell_layout.specs.Valid.{is_valid}
 use Rattle.cell_layout.proofs.PlacedImageLemmas.{valid_parts}
 use Rattle.code_join.specs.Keys.{Keyed}
 use Rattle.code_group.specs.GroupLaws.{selected_in}
 use Rattle.code_group.specs.Plans.{formula_picks, measure_picks, is_of_fact, fact_picks, fact_key_picks, fact_value_picks}
 use Rattle.dim_filter.specs.Entries.{entry_of}
-use Rattle.late_decode.specs.declared.plan.Pick.{Pick}
 use Rattle.star_select.specs.CodeSelection.{fact_cells, fact_rest, SelectsByCodes}
 use Rattle.star_select.specs.Decodes.{selected_if, selected_rows, key_places, places_in, most_decodes, key_decodes, group_decodes, DecodesAddUp}
-use Rattle.star_select.specs.ImageAnswer.{rows_in, image_keys, HasImages, FactNamed}
-use Rattle.star_select.specs.KeySets.{wanted_rows, keyed_of, key_maps, is_selected}
+use Rattle.star_select.specs.ImageAnswer.{rows_in, image_keys, FactNamed}
+use Rattle.star_select.specs.KeySets.{wanted_rows, is_selected}
 use Rattle.star_select.specs.Picks.{expr_refs, item_refs, named_refs, wanted_columns, pick_if, pick_of}
 use Rattle.star_select.specs.QueryPlan.{has_total, is_plain, formula_of, measure_of, item_pick, keys_if, measures_if, plan_of}
 use Rattle.star_bind.specs.Joins.{key_at}
@@ -186,7 +185,7 @@ ties-sum {Z} g zs (t ∷ ts) h =
     let first = sum_by-cons (λ (u : Tie). g u.dimension) t ts in
     let added = add-at t.dimension (g t.dimension) 0 t.dimension (λ (p : ℕ × Z). count_by (λ (u : Tie). u.dimension == p.0) ts * g p.0) zs (omega arith) (ltb-true t.dimension (length zs) b.0) in
     let less = sum_by-le-sum_by (λ (p : ℕ × Z). count_by (λ (u : Tie). u.dimension == p.0) ts * g p.0 + cond (p.0 == t.dimension) (g t.dimension) 0)
-        (λ (p : ℕ × Z). count_by (λ (u : Tie). u.dimension == p.0) (t ∷ ts) * g p.0) (numbered zs) (λ p. one p.0) in
+    (λ (p : ℕ × Z). count_by (λ (u : Tie). u.dimension == p.0) (t ∷ ts) * g p.0) (numbered zs) (λ p. one p.0) in
     omega (arith, more, first, added, less)
   where
     one : (d : ℕ) → count_by (λ (u : Tie). u.dimension == d) ts * g d + cond (d == t.dimension) (g t.dimension) 0 ≤ count_by (λ (u : Tie). u.dimension == d) (t ∷ ts) * g d
@@ -247,7 +246,7 @@ module _ (query : Query) (scope : Scope) (tables : List (List Row)) (within : qu
           let none : count_by (λ (t : Tie). t.dimension == d) query.ties ≡ 0 = ap (λ n. count_by (λ (t : Tie). t.dimension == n) query.ties) same ∙ no-tie in
           let product : count_by (λ (t : Tie). t.dimension == d) query.ties * of_keys d ≡ 0 * of_keys d = ap (λ n. n * of_keys d) none in
           let here : length (selected_rows query scope tables query.fact) * places_in query query.fact ≡ length (selected_if true query scope tables d) * places_in query d =
-              ap (λ c. length (selected_if c query scope tables query.fact) * places_in query query.fact) (eq-eqb query.fact query.fact refl) ∙ ap (λ n. length (selected_if true query scope tables n) * places_in query n) (sym same) in
+          ap (λ c. length (selected_if c query scope tables query.fact) * places_in query query.fact) (eq-eqb query.fact query.fact refl) ∙ ap (λ n. length (selected_if true query scope tables n) * places_in query n) (sym same) in
           omega (arith, few, product, here)
       by false e k =
           let one : count_by (λ (t : Tie). t.dimension == d) query.ties ≡ 1 = eqb-true (count_by (λ (t : Tie). t.dimension == d) query.ties) 1 k in
@@ -261,8 +260,8 @@ module _ (query : Query) (scope : Scope) (tables : List (List Row)) (within : qu
       let keys = ties-sum of_keys scope query.ties dimensions in
       let added = add-at query.fact most 0 query.fact (λ (p : ℕ × FromEntry). count_by (λ (t : Tie). t.dimension == p.0) query.ties * of_keys p.0) scope (omega arith) within in
       let less = sum-where (λ (p : ℕ × FromEntry). p.0 == query.fact || count_by (λ (t : Tie). t.dimension == p.0) query.ties == 1)
-          (λ (p : ℕ × FromEntry). count_by (λ (t : Tie). t.dimension == p.0) query.ties * of_keys p.0 + cond (p.0 == query.fact) most 0)
-          (λ (p : ℕ × FromEntry). length (selected_rows query scope tables p.0) * places_in query p.0) (λ p h. one-table most few p.0 h) (numbered scope) counted in
+      (λ (p : ℕ × FromEntry). count_by (λ (t : Tie). t.dimension == p.0) query.ties * of_keys p.0 + cond (p.0 == query.fact) most 0)
+      (λ (p : ℕ × FromEntry). length (selected_rows query scope tables p.0) * places_in query p.0) (λ p h. one-table most few p.0 h) (numbered scope) counted in
       omega (arith, keys, added, less)
 
 -- ---- over images
@@ -289,13 +288,13 @@ decodes_add_up shaped by_codes named schemas s images image has here =
     let shape = shaped schemas s has.formed has.free in
     let cells = (valid_parts image (all-place is_valid images query.fact image has.valid here)).cells in
     let rows : selected_rows query scope tables query.fact ≡ flat_map (selected_in image) (fact_cells image query keys) ++ fact_rest image query keys =
-        ap (λ c. selected_if c query scope tables query.fact) (eq-eqb query.fact query.fact refl)
-        ∙ ap (filter (is_selected query keys)) (rows-at images query.fact image here)
-        ∙ rows-selected by_codes image query keys (named schemas s images image has here) cells in
+    ap (λ c. selected_if c query scope tables query.fact) (eq-eqb query.fact query.fact refl)
+    ∙ ap (filter (is_selected query keys)) (rows-at images query.fact image here)
+    ∙ rows-selected by_codes image query keys (named schemas s images image has here) cells in
     let long : length (selected_rows query scope tables query.fact) ≡ length (flat_map (selected_in image) (fact_cells image query keys)) + length (fact_rest image query keys) =
-        ap (λ (l : List Row). length l) rows ∙ length-append (flat_map (selected_in image) (fact_cells image query keys)) (fact_rest image query keys) in
+    ap (λ (l : List Row). length l) rows ∙ length-append (flat_map (selected_in image) (fact_cells image query keys)) (fact_rest image query keys) in
     let count = cells-long image (fact_cells image query keys) in
     let few = mul-le (sum_by (λ (cell : CellImage × List (List ℕ)). length cell.1) (fact_cells image query keys)) (fact_value_picks (plan_of query) + fact_key_picks (plan_of query))
-        (length (selected_rows query scope tables query.fact)) (places_in query query.fact) (omega (arith, long, count)) (fact-places query) in
+    (length (selected_rows query scope tables query.fact)) (places_in query query.fact) (omega (arith, long, count)) (fact-places query) in
     let all = sums-within query scope tables shape.fact shape.ties (tables-tied schemas s has.free) (group_decodes image query keys) few in
     omega (arith, all, keys-long query scope tables)

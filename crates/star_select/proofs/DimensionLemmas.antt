@@ -1,7 +1,6 @@
 -- The dimensions of a star: the pick of a column that is named is there, and the rows of a combination fit their tables.
-use Rattle.std.proofs.Common.{◌≡◌, ◌<◌, ◌==◌, ◌+◌, ℕ, Bool, true, false, not, ◌&&◌, List, [], ◌∷◌, map, filter, find, length, nat_lt, slice_get, slice_index_or, Option, Some, None, option_map, cond, if◌then◌else◌, refl, sym, ap, ◌∙◌, subst, true≢false, arith}
-use Rattle.std.specs.Prelude.{pos}
-use Rattle.std.specs.List.{list_all, list_any, zip, position_or_len}
+use Rattle.std.proofs.Common.{◌≡◌, ◌<◌, ◌==◌, ℕ, Bool, true, false, List, [], ◌∷◌, map, filter, find, length, nat_lt, slice_get, slice_index_or, Option, Some, None, option_map, cond, if◌then◌else◌, refl, sym, ap, ◌∙◌, subst, true≢false, arith}
+use Rattle.std.specs.List.{list_all, list_any, zip}
 use Rattle.std.specs.Option.{is_some, option_and_then}
 use Rattle.std.proofs.lemmas.Bool.{eqb-true, lt-ltb}
 use Rattle.std.proofs.lemmas.List.{length-map}
@@ -11,7 +10,6 @@ use Rattle.blink_base.specs.declared.schema.Column.{Column}
 use Rattle.blink_base.specs.declared.value.Value.{Value}
 use Rattle.blink_base.specs.Values.{Row, same_value}
 use Rattle.blink_base.specs.RowFits.{fits}
-use Rattle.blink_lists.specs.Lists.{numbered}
 use Rattle.blink_lists.proofs.AllLemmas.{all-part}
 use Rattle.blink_lists.proofs.BoolLemmas.{all-true}
 use Rattle.blink_lists.proofs.GroupLemmas.{both, and_both, all-imply}
@@ -30,7 +28,7 @@ use Rattle.star_bind.proofs.StarLemmas.{IsPart}
 use Rattle.code_join.specs.Keys.{Keyed}
 use Rattle.code_group.specs.Plans.{pick_there}
 use Rattle.dim_filter.specs.Entries.{entry_of}
-use Rattle.late_decode.specs.declared.plan.Pick.TheVariants.{Fact, Dimension}
+use Rattle.late_decode.specs.declared.plan.Pick.TheVariants.{Dimension}
 use Rattle.star_select.specs.KeySets.{wanted_rows, keyed_of, key_maps}
 use Rattle.star_select.specs.Picks.{same_ref, named_refs, wanted_columns, wanted_place, tie_place, pick_if, pick_of}
 use Rattle.star_select.proofs.KeySetLemmas.{parts}
@@ -67,9 +65,12 @@ module _ (scope : Scope) (s : Select) (fact : ℕ) (a : Accepted scope s fact) (
   -- a table at its place, with its rows
   part-at : (d : ℕ) → d < length scope → (e : FromEntry) × (slice_get (zip scope tables) d ≡ Some (e, slice_index_or tables d [])) × (slice_get scope d ≡ Some e) × IsPart scope fact ties own (d, (e, slice_index_or tables d []))
   part-at d l =
-      let (e, pair, here) = zip-place [] scope tables d sized l in
-      (e, pair, here,
-      subst (λ n. IsPart scope fact ties own (n, (e, slice_index_or tables d []))) (omega arith) (each-place (IsPart scope fact ties own) 0 (zip scope tables) d (e, slice_index_or tables d []) (parts scope s fact a tables sized held) pair))
+      let (e, pair, here) = zip-place [] scope tables d sized l in (
+        e,
+        pair,
+        here,
+        subst (λ n. IsPart scope fact ties own (n, (e, slice_index_or tables d []))) (omega arith) (each-place (IsPart scope fact ties own) 0 (zip scope tables) d (e, slice_index_or tables d []) (parts scope s fact a tables sized held) pair),
+      )
 
   -- the tie of a dimension, and its place
   pub tie-at : (d : ℕ) → (d == fact) ≡ false → d < length scope → (t : Tie) × (slice_get ties (tie_place query d) ≡ Some t) × (t.dimension ≡ d)

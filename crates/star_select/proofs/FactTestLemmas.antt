@@ -1,12 +1,11 @@
 -- Tests of a conjunction and of key sets, one a column.
-use Rattle.std.proofs.Common.{◌≡◌, ◌==◌, ℕ, pos, Bool, true, false, not, ◌&&◌, ◌||◌, List, [], ◌∷◌, map, nat_lt, slice_index_or, refl, sym, ap, ◌∙◌, true≢false}
+use Rattle.std.proofs.Common.{◌≡◌, ◌==◌, ℕ, pos, Bool, true, false, ◌&&◌, ◌||◌, List, [], ◌∷◌, nat_lt, slice_index_or, refl, sym, ap, ◌∙◌}
 use Rattle.std.specs.List.{list_any, list_all, zip}
 use Rattle.std.proofs.lemmas.Bool.{eqb-true}
 use Rattle.std.proofs.lemmas.List.Folds.{list_all-map}
 use Rattle.blink_base.specs.declared.value.Value.TheVariants.{Int}
 use Rattle.blink_base.specs.Tests.{tree_holds}
 use Rattle.blink_base.specs.Values.{Row}
-use Rattle.blink_lists.specs.Lists.{are_distinct}
 use Rattle.blink_lists.proofs.ChoiceLemmas.{any-alike}
 use Rattle.blink_lists.proofs.GroupLemmas.{both, and_both}
 use Rattle.star_bind.specs.declared.query.ColumnTest.{ColumnTest}
@@ -17,7 +16,7 @@ use Rattle.star_bind.specs.Joins.{filters_at}
 use Rattle.cell_scan.specs.ValueTests.{ValueTest, passes_tests}
 use Rattle.code_join.specs.Keys.{Keyed, is_key}
 use Rattle.code_group.specs.Entries.{has_keys}
-use Rattle.star_select.specs.CodeSelection.{conjunction_tests, key_tests, both_hold, put_if, put_test, put_tests, fact_tests, is_of_columns, SelectsByConjunctions}
+use Rattle.star_select.specs.CodeSelection.{conjunction_tests, key_tests, put_if, put_test, put_tests, fact_tests, is_of_columns, SelectsByConjunctions}
 use Rattle.star_select.specs.Picks.{tied_columns}
 
 and-last : (a b c : Bool) → ((a && b) && c) ≡ ((a && c) && b)
@@ -89,10 +88,10 @@ selects_by_conjunctions query keys row =
     let joined : Bool = has_keys (tied_columns query) keys row in
     any-and (passes row) joined (filters_at query query.fact)
     ∙ any-alike (λ c. passes row c && joined) (λ c. passes_tests (fact_tests query keys c) row)
-      (λ c. sym (all-put-pass row (conjunction_tests c) (key_tests query keys)
-      ∙ (λ i. list_all-map (holds row) (λ (t : ColumnTest). record { column = t.column; holds = λ v. tree_holds v t.tree }) c.tests i
-      && list_all-map (holds row) (λ (p : ℕ × Keyed). record { column = p.0; holds = is_key p.1 }) (zip (tied_columns query) keys) i)))
-      (filters_at query query.fact)
+    (λ c. sym (all-put-pass row (conjunction_tests c) (key_tests query keys)
+    ∙ (λ i. list_all-map (holds row) (λ (t : ColumnTest). record { column = t.column; holds = λ v. tree_holds v t.tree }) c.tests i
+    && list_all-map (holds row) (λ (p : ℕ × Keyed). record { column = p.0; holds = is_key p.1 }) (zip (tied_columns query) keys) i)))
+    (filters_at query query.fact)
 
 -- ---- which columns are tested
 

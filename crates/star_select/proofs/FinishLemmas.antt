@@ -1,22 +1,19 @@
 -- How a query's groups give lines is in range of groups by its plan.
-use Rattle.std.proofs.Common.{◌≡◌, ◌<◌, ◌≤◌, ◌==◌, ◌+◌, ℕ, suc, Bool, true, false, not, ◌&&◌, ◌||◌, List, [], ◌∷◌, map, length, nat_lt, slice_get, Some, refl, sym, ap, ◌∙◌, subst, true≢false, arith}
-use Rattle.std.specs.List.{list_all, list_any, position_or_len}
+use Rattle.std.proofs.Common.{◌≡◌, ◌<◌, ◌==◌, ◌+◌, ℕ, Bool, true, false, not, ◌||◌, List, [], ◌∷◌, map, length, nat_lt, refl, sym, ap, ◌∙◌, true≢false, arith}
+use Rattle.std.specs.List.{list_all, list_any}
 use Rattle.std.proofs.lemmas.Bool.{eqb-true, lt-ltb}
 use Rattle.std.proofs.lemmas.List.{length-map}
 use Rattle.std.proofs.lemmas.List.Folds.{find_at, list_all-map}
 use Rattle.std.proofs.lemmas.Option.{slice_get_within}
 use Rattle.blink_base.specs.Values.{Row}
 use Rattle.blink_lists.specs.Lists.{numbered_from}
-use Rattle.blink_lists.proofs.BoolLemmas.{all_both}
-use Rattle.blink_lists.proofs.ChoiceLemmas.{any-map}
-use Rattle.blink_lists.proofs.GroupLemmas.{both, and_both, all-imply, neither}
+use Rattle.blink_lists.proofs.GroupLemmas.{both, and_both, all-imply}
 use Rattle.star_bind.specs.declared.query.ColumnRef.{ColumnRef}
 use Rattle.star_bind.specs.declared.query.BoundItem.{BoundItem}
 use Rattle.star_bind.specs.declared.query.BoundItem.TheVariants.{Column, Count, Sum, Average, Least, Greatest}
 use Rattle.star_bind.specs.declared.query.Query.{Query}
 use Rattle.star_bind.specs.BoundAnswer.{is_total}
 use Rattle.star_bind.specs.BoundQuery.{query_of}
-use Rattle.code_group.specs.Plans.{are_of_plan}
 use Rattle.late_decode.specs.declared.plan.Measure.{Measure}
 use Rattle.late_decode.specs.declared.plan.Part.{Part}
 use Rattle.late_decode.specs.declared.plan.Slot.{Slot}
@@ -25,7 +22,7 @@ use Rattle.late_decode.specs.Bounds.{are_groups, counts_first, is_key_slot, meas
 use Rattle.late_decode.specs.Groups.{Grouped}
 use Rattle.star_select.specs.GroupAnswer.{stands_in, IsGrouped, QueriesAreGrouped}
 use Rattle.star_select.specs.Picks.{same_ref, pick_of}
-use Rattle.star_select.specs.Preconditions.{CanFinish, GroupsCanFinish}
+use Rattle.star_select.specs.Preconditions.{GroupsCanFinish}
 use Rattle.star_select.specs.QueryPlan.{has_total, is_plain, is_single, item_pick, keys_if, measures_if, group_place, slot_of, slots_if, plan_of, finish_of}
 use Rattle.star_select.specs.QueryPlan.{measure_of}
 use Rattle.star_select.proofs.QueryLineLemmas.{all-total}
@@ -64,7 +61,7 @@ slots-in-range : (query : Query) → IsGrouped query → (plain : Bool) → is_p
 slots-in-range query grouping true e =
     list_all-map (in_range (length (keys_if true query)) 1) (λ (p : ℕ × BoundItem). slot.Key p.0) (numbered_from 0 query.items)
     ∙ all-numbered (λ n (x : BoundItem). nat_lt n (length (keys_if true query))) 0 query.items
-      (λ n x l. lt-ltb n (length (keys_if true query)) (let long = length-map query.items (item_pick query) in omega (arith, l, long)))
+    (λ n x l. lt-ltb n (length (keys_if true query)) (let long = length-map query.items (item_pick query) in omega (arith, l, long)))
 slots-in-range query grouping false e =
     let some : (query.grouped || has_total query) ≡ true = not-not (query.grouped || has_total query) e in
     let keys : length (keys_if false query) ≡ length query.groups = length-map query.groups (pick_of query) in
@@ -72,7 +69,7 @@ slots-in-range query grouping false e =
     (λ i. list_all (in_range (keys i) (measures i)) (slots_if false query))
     ∙ list_all-map (in_range (length query.groups) (1 + length query.items)) (λ (p : ℕ × BoundItem). slot_of query.groups p.0 p.1) (numbered_from 1 query.items)
     ∙ all-numbered-where (λ n i. in_range (length query.groups) (1 + length query.items) (slot_of query.groups n i)) (stands_in query.groups) 1 query.items (grouping.stand some)
-      (λ n i l h. slot-in-range query.groups (length query.items) n i l h)
+    (λ n i l h. slot-in-range query.groups (length query.items) n i l h)
   where
     not-not : (a : Bool) → not a ≡ false → a ≡ true
     not-not true k = refl

@@ -1,5 +1,5 @@
 -- The answer to a query is that of the groups of the selected rows of its fact.
-use Rattle.std.proofs.Common.{◌≡◌, ◌<◌, ℕ, Bool, true, ◌&&◌, List, [], ◌∷◌, map, filter, length, Option, slice_index_or, refl, sym, ap, ◌∙◌, subst}
+use Rattle.std.proofs.Common.{◌≡◌, ◌<◌, ℕ, Bool, true, List, [], map, filter, length, Option, slice_index_or, refl, sym, ap, ◌∙◌, subst}
 use Rattle.std.specs.Prelude.{filter_map}
 use Rattle.std.specs.List.{list_all, list_any}
 use Rattle.std.specs.Option.{is_some}
@@ -11,7 +11,7 @@ use Rattle.blink_lists.specs.Rearrangement.{Rearranged}
 use Rattle.blink_lists.specs.Rearrangement.Rearranged.{followed}
 use Rattle.blink_lists.proofs.AllLemmas.{all-passing, all-rearranged}
 use Rattle.blink_lists.proofs.GroupLemmas.{both, filter-alike}
-use Rattle.blink_lists.proofs.ProductLemmas.{filter-map, is_one}
+use Rattle.blink_lists.proofs.ProductLemmas.{filter-map}
 use Rattle.star_sql.specs.declared.ast.Select.{Select}
 use Rattle.star_meaning.specs.Names.{Scope, Combination}
 use Rattle.star_meaning.specs.Answer.{answer}
@@ -43,8 +43,8 @@ groups-of-map {X} {Y} plan f picked ys =
     let key : X → Row = λ x. key_of plan.keys (picked x) in
     sym (ap (λ ks. map (λ k. (k, parts_over plan.measures (map picked (with_key same_row key (map f ys) k)))) (once_each same_row ks)) (map-map key f ys)
     ∙ map-alike (λ k. (k, parts_over plan.measures (map picked (with_key same_row key (map f ys) k)))) (λ k. (k, parts_over plan.measures (map (λ y. picked (f y)) (with_key same_row (λ y. key (f y)) ys k))))
-      (λ k i. (k, parts_over plan.measures ((ap (map picked) (filter-map (λ x. same_row k (key x)) f ys) ∙ map-map picked f (filter (λ y. same_row k (key (f y))) ys)) i)))
-      (once_each same_row (map (λ y. key (f y)) ys)))
+    (λ k i. (k, parts_over plan.measures ((ap (map picked) (filter-map (λ x. same_row k (key x)) f ys) ∙ map-map picked f (filter (λ y. same_row k (key (f y))) ys)) i)))
+    (once_each same_row (map (λ y. key (f y)) ys)))
 
 -- a query has the tables of its statement
 pub names-as-many : (schemas : Schemas) (s : Select) → length (query_of schemas s).tables ≡ length s.tables

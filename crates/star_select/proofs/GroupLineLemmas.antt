@@ -1,5 +1,5 @@
 -- The line that a group gives is that of its combinations.
-use Rattle.std.proofs.Common.{◌≡◌, ℕ, zero, suc, pos, ◌+◌, ◌==◌, Bool, true, false, not, ◌&&◌, ◌||◌, List, [], ◌∷◌, ◌++◌, map, filter, length, slice_index_or, Some, refl, sym, ap, ◌∙◌, true≢false, arith, append_assoc, length-append, ◌⊎◌, inl, inr}
+use Rattle.std.proofs.Common.{◌≡◌, ℕ, suc, pos, ◌+◌, ◌==◌, Bool, true, false, ◌&&◌, List, [], ◌∷◌, ◌++◌, map, length, slice_index_or, Some, refl, sym, ap, ◌∙◌, true≢false, arith, append_assoc, length-append, ◌⊎◌, inl, inr}
 use Rattle.std.specs.Option.{option_map_or}
 use Rattle.std.specs.List.{list_any, list_all, position_or_len}
 use Rattle.std.specs.Ordering.{is_le}
@@ -23,7 +23,6 @@ use Rattle.star_bind.specs.BoundAnswer.{ref_value, bound_value, bound_line, is_t
 use Rattle.late_decode.specs.declared.plan.Measure.{Measure}
 use Rattle.late_decode.specs.declared.plan.Measure.TheVariants as measure
 use Rattle.late_decode.specs.declared.plan.Part.{Part}
-use Rattle.late_decode.specs.declared.plan.Slot.{Slot}
 use Rattle.late_decode.specs.GroupLines.{measure_field, slot_field, group_line}
 use Rattle.late_decode.specs.Parts.{Picked, no_part, part_over, parts_over}
 use Rattle.star_select.specs.GroupAnswer.{stands_in}
@@ -59,10 +58,10 @@ module _ {A M P F : Type 0} (g : A → M) (q : A → P) (h : M → P → A → F
       let further : length (ps ++ q x ∷ []) ≡ n + 1 = length-append ps (q x ∷ []) ∙ ap (λ j. j + 1) k in
       let rest = at-places xs (ms ++ g x ∷ []) (ps ++ q x ∷ []) (n + 1) longer further in
       let moved : map (λ p. h (slice_index_or (ms ++ g x ∷ map g xs) p.0 dm) (slice_index_or (ps ++ q x ∷ map q xs) p.0 dp) p.1) (numbered_from (n + 1) xs)
-          ≡ map (λ p. h (slice_index_or ((ms ++ g x ∷ []) ++ map g xs) p.0 dm) (slice_index_or ((ps ++ q x ∷ []) ++ map q xs) p.0 dp) p.1) (numbered_from (n + 1) xs)
-          = λ i. map (λ (p : ℕ × A). h (slice_index_or (sym (append_assoc ms (g x ∷ []) (map g xs)) i) p.0 dm) (slice_index_or (sym (append_assoc ps (q x ∷ []) (map q xs)) i) p.0 dp) p.1) (numbered_from (n + 1) xs) in
+      ≡ map (λ p. h (slice_index_or ((ms ++ g x ∷ []) ++ map g xs) p.0 dm) (slice_index_or ((ps ++ q x ∷ []) ++ map q xs) p.0 dp) p.1) (numbered_from (n + 1) xs)
+      = λ i. map (λ (p : ℕ × A). h (slice_index_or (sym (append_assoc ms (g x ∷ []) (map g xs)) i) p.0 dm) (slice_index_or (sym (append_assoc ps (q x ∷ []) (map q xs)) i) p.0 dp) p.1) (numbered_from (n + 1) xs) in
       let first : h (slice_index_or (ms ++ g x ∷ map g xs) n dm) (slice_index_or (ps ++ q x ∷ map q xs) n dp) x ≡ h (g x) (q x) x
-          = λ i. h (seam ms (g x) (map g xs) dm n e i) (seam ps (q x) (map q xs) dp n k i) x in
+      = λ i. h (seam ms (g x) (map g xs) dm n e i) (seam ps (q x) (map q xs) dp n k i) x in
       let whole = moved ∙ rest in
       λ i. first i ∷ whole i
 
@@ -129,10 +128,10 @@ line-shown query key rows =
     let measures : List Measure = measures_if false query in
     map-map (slot_field measures (key, parts_over measures rows)) (λ (p : ℕ × BoundItem). slot_of query.groups p.0 p.1) (numbered_from 1 query.items)
     ∙ map-alike (λ (p : ℕ × BoundItem). slot_field measures (key, parts_over measures rows) (slot_of query.groups p.0 p.1))
-      (λ p. shown query.groups key (slice_index_or measures p.0 measure.Count) (slice_index_or (parts_over measures rows) p.0 no_part) p.1)
-      (λ p. slot-shown query.groups measures key (parts_over measures rows) p.0 p.1) (numbered_from 1 query.items)
+    (λ p. shown query.groups key (slice_index_or measures p.0 measure.Count) (slice_index_or (parts_over measures rows) p.0 no_part) p.1)
+    (λ p. slot-shown query.groups measures key (parts_over measures rows) p.0 p.1) (numbered_from 1 query.items)
     ∙ ap (λ (ps : List Part). map (λ (p : ℕ × BoundItem). shown query.groups key (slice_index_or measures p.0 measure.Count) (slice_index_or (part_over measure.Count rows ∷ ps) p.0 no_part) p.1) (numbered_from 1 query.items))
-      (map-map (λ m. part_over m rows) (measure_of query) query.items)
+    (map-map (λ m. part_over m rows) (measure_of query) query.items)
     ∙ at-places (measure_of query) (λ i. part_over (measure_of query i) rows) (shown query.groups key) measure.Count no_part query.items (measure.Count ∷ []) (part_over measure.Count rows ∷ []) 1 refl refl
 
 -- by columns whose picks are their values

@@ -1,12 +1,11 @@
 -- The answer to a query over images is that of the groups that the image of its fact gives.
-use Rattle.std.proofs.Common.{◌≡◌, ◌<◌, ◌==◌, ℕ, zero, suc, pos, Bool, true, false, not, ◌&&◌, List, [], ◌∷◌, ◌++◌, map, filter, length, nat_lt, nat_le, slice_get, slice_index_or, Option, Some, None, option_map, refl, sym, ap, ◌∙◌, subst, true≢false, arith}
-use Rattle.std.specs.Prelude.{count_by}
-use Rattle.std.specs.List.{list_all, zip, flat_map}
-use Rattle.std.specs.Option.{option_map_or, is_some}
+use Rattle.std.proofs.Common.{◌≡◌, ◌==◌, ℕ, zero, suc, true, not, ◌&&◌, List, [], ◌∷◌, map, filter, length, nat_lt, nat_le, slice_get, slice_index_or, Option, Some, None, refl, sym, ap, ◌∙◌, subst, arith}
+use Rattle.std.specs.List.{list_all, zip}
+use Rattle.std.specs.Option.{option_map_or}
 use Rattle.std.proofs.lemmas.Bool.{eqb-true}
 use Rattle.std.proofs.lemmas.List.{length-map}
 use Rattle.std.proofs.lemmas.List.Folds.{list_all-map}
-use Rattle.std.proofs.lemmas.Option.{slice_get-map, slice_get_within}
+use Rattle.std.proofs.lemmas.Option.{slice_get_within}
 use Rattle.blink_base.specs.declared.schema.Schema.{Schema}
 use Rattle.blink_base.specs.Values.{Row}
 use Rattle.blink_base.specs.RowFits.{fits}
@@ -23,13 +22,13 @@ use Rattle.star_bind.specs.Joins.{filters_at}
 use Rattle.star_bind.specs.Laws.{may_hold, has_own_keys}
 use Rattle.star_bind.specs.QueryShape.{column_count, is_tie, is_conjunction, is_condition_on, HasShape, QueriesHaveShape}
 use Rattle.cell_layout.specs.Image.{TableImage, rows_of}
-use Rattle.cell_layout.specs.Valid.{is_cell, is_valid, are_keyed}
-use Rattle.cell_layout.proofs.PlacedImageLemmas.{HasParts, valid_parts}
+use Rattle.cell_layout.specs.Valid.{is_valid, are_keyed}
+use Rattle.cell_layout.proofs.PlacedImageLemmas.{valid_parts}
 use Rattle.cell_layout.proofs.RowFitLemmas.{valid_fits}
-use Rattle.column_classes.specs.ColumnClasses.{are_column_classes, are_divided}
+use Rattle.column_classes.specs.ColumnClasses.{are_column_classes}
 use Rattle.code_join.specs.Keys.{Keyed}
-use Rattle.code_group.specs.GroupLaws.{selected_in, ImageGroups}
-use Rattle.star_select.specs.CodeSelection.{fact_cells, fact_rest, is_of_columns, NamesFact, SelectsByCodes}
+use Rattle.code_group.specs.GroupLaws.{ImageGroups}
+use Rattle.star_select.specs.CodeSelection.{fact_cells, fact_rest, is_of_columns, SelectsByCodes}
 use Rattle.star_select.specs.GroupAnswer.{answer_of_groups, AnswersByGroups}
 use Rattle.star_select.specs.ImageAnswer.{rows_in, image_keys, HasImages, ImagesMayBeAsked, FactNamed, AnswersByCodes}
 use Rattle.star_select.specs.KeySets.{keyed_of, is_selected}
@@ -114,8 +113,8 @@ module _ (scope : Scope) (query : Query) (shape : HasShape scope query) (entry :
       let size : column_count scope query.fact ≡ columns = ap (λ (o : Option FromEntry). option_map_or (λ x. length x.schema.columns) o 0) here ∙ sym many in
       list_all-map (λ k. nat_lt k columns) (λ (t : Tie). t.column) query.ties
       ∙ all-imply (is_tie scope query.fact) (λ (t : Tie). nat_lt t.column columns)
-        (λ t h. ap (λ n. nat_lt t.column n) (sym size)
-        ∙ (both (nat_lt t.column (column_count scope query.fact)) (not (t.dimension == query.fact)) (both (nat_lt t.column (column_count scope query.fact) && not (t.dimension == query.fact)) _ h).0).0) query.ties shape.ties
+      (λ t h. ap (λ n. nat_lt t.column n) (sym size)
+      ∙ (both (nat_lt t.column (column_count scope query.fact)) (not (t.dimension == query.fact)) (both (nat_lt t.column (column_count scope query.fact) && not (t.dimension == query.fact)) _ h).0).0) query.ties shape.ties
 
 pub fact_named : QueriesHaveShape → FactNamed
 fact_named shaped schemas s images image has here =
@@ -148,6 +147,6 @@ answers_by_codes by_groups by_codes grouped asked named schemas s images image h
     let groups = grouped image (plan_of query) keys (fact_cells image query keys) (fact_rest image query keys) names.as_many names.ties (cells-joined by_codes image query keys names image.cells cells) in
     let rows : slice_index_or (rows_in images) query.fact [] ≡ rows_of image = rows-at images query.fact image here in
     let order : Rearranged (filter (is_selected query keys) (slice_index_or (rows_in images) query.fact [])) groups.0 =
-        subst (λ (l : List Row). Rearranged l groups.0) (sym (ap (filter (is_selected query keys)) rows ∙ rows-selected by_codes image query keys names cells)) groups.1 in
+    subst (λ (l : List Row). Rearranged l groups.0) (sym (ap (filter (is_selected query keys)) rows ∙ rows-selected by_codes image query keys names cells)) groups.1 in
     by_groups schemas s (rows_in images) (asked schemas s images has) groups.0 order
     ∙ ap (answer_of_groups query) (sym groups.2)

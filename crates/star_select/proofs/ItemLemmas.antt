@@ -1,8 +1,7 @@
 -- What is measured for an item over picked values is its value over the combinations that these are of.
-use Rattle.std.proofs.Common.{◌≡◌, suc, ℤ, pos, ◌+ℤ◌, ◌-ℤ◌, ◌*ℤ◌, Bool, true, false, ◌&&◌, List, [], ◌∷◌, map, length, refl, sym, ap, ◌∙◌, true≢false}
+use Rattle.std.proofs.Common.{◌≡◌, suc, ℤ, pos, ◌+ℤ◌, ◌-ℤ◌, ◌*ℤ◌, Bool, true, List, [], ◌∷◌, map, length, refl, sym, ap, ◌∙◌, true≢false}
 use Rattle.std.specs.Prelude.{int_div}
 use Rattle.std.specs.List.{list_all}
-use Rattle.std.proofs.lemmas.List.{length-map}
 use Rattle.blink_base.specs.declared.answer.Field.TheVariants as field
 use Rattle.blink_base.specs.Values.{number_in}
 use Rattle.blink_base.specs.Lines.{sum_of, sum_field, average_field, least_field, greatest_field}

@@ -1,14 +1,12 @@
 -- No key stands twice in the key set of a tie.
-use Rattle.std.proofs.Common.{◌≡◌, ℕ, zero, suc, ◌+◌, ◌<◌, ◌≤◌, ◌⊎◌, Bool, true, false, not, ◌&&◌, ◌||◌, List, [], ◌∷◌, map, filter, find, position, length, slice_get, slice_index_or, Option, Some, None, option_map, cond, refl, sym, ap, ◌∙◌, subst, true≢false, inl, inr, nat_lt}
-use Rattle.std.specs.List.{list_all, list_any, zip, position_or_len}
-use Rattle.std.specs.Option.{option_and_then, option_map_or, is_some}
-use Rattle.std.specs.Prelude.{pos}
-use Rattle.std.specs.Map.{keys_of, values_of}
-use Rattle.std.proofs.lemmas.Bool.{and_parts, cases_lt, lt-ltb, le-ltb}
-use Rattle.std.proofs.lemmas.List.Folds.{find_at, list_all-map}
-use Rattle.std.proofs.lemmas.Option.{slice_get_past, slice_get_within, slice_get-get_or, get_or_from_slice_get, slice_get-map}
+use Rattle.std.proofs.Common.{◌≡◌, ℕ, Bool, true, false, not, ◌&&◌, ◌||◌, List, [], ◌∷◌, map, filter, length, slice_index_or, Option, cond, refl, sym, ap, ◌∙◌, subst, true≢false}
+use Rattle.std.specs.List.{list_all, list_any, zip}
+use Rattle.std.specs.Option.{option_map_or}
+use Rattle.std.specs.Map.{keys_of}
+use Rattle.std.proofs.lemmas.Bool.{and_parts}
+use Rattle.std.proofs.lemmas.List.Folds.{list_all-map}
+use Rattle.std.proofs.lemmas.Option.{slice_get_within}
 use Rattle.blink_base.specs.declared.value.Value.{Value}
-use Rattle.blink_base.specs.declared.value.Value.TheVariants.{Int}
 use Rattle.blink_base.specs.Values.{Row, same_value}
 use Rattle.blink_base.specs.RowFits.{fits}
 use Rattle.blink_lists.specs.Lists.{are_distinct}
@@ -16,20 +14,19 @@ use Rattle.star_sql.specs.declared.ast.Select.{Select}
 use Rattle.star_meaning.specs.Names.{Scope, FromEntry}
 use Rattle.star_bind.specs.declared.query.Query.{Query}
 use Rattle.star_bind.specs.declared.query.Tie.{Tie}
-use Rattle.star_bind.specs.Conjunctions.{passes}
 use Rattle.star_bind.specs.StarForm.{ties_of}
 use Rattle.star_bind.specs.BoundQuery.{scope_of, query_in}
 use Rattle.star_bind.specs.Laws.{value_in, may_hold, has_own_keys}
-use Rattle.star_bind.specs.Joins.{key_in, key_at, filters_at, is_wanted}
-use Rattle.star_select.specs.KeySets.{wanted_rows, keyed_of, key_maps, MayBeAsked, KeysOnce}
+use Rattle.star_bind.specs.Joins.{key_in, key_at, is_wanted}
+use Rattle.star_select.specs.KeySets.{keyed_of, key_maps, KeysOnce}
 use Rattle.star_select.specs.Picks.{wanted_columns}
-use Rattle.code_join.specs.Keys.{Keyed, are_keys}
+use Rattle.code_join.specs.Keys.{are_keys}
 use Rattle.dim_filter.specs.Entries.{entry_of}
-use Rattle.star_bind.proofs.TieLemmas.{IsTie, same_value-back}
+use Rattle.star_bind.proofs.TieLemmas.{IsTie}
 use Rattle.star_bind.proofs.StarLemmas.{all-each}
 use Rattle.star_bind.proofs.AcceptanceLemmas.{Accepted, accepted, scope_accepted}
 use Rattle.star_bind.proofs.FactRowLemmas.{query-is, tied}
-use Rattle.star_select.proofs.ListLemmas.{some-same, none-some, zip-place, all-place}
+use Rattle.star_select.proofs.ListLemmas.{some-same, zip-place, all-place}
 use Rattle.blink_lists.proofs.BoolLemmas.{all-true}
 
 -- some of distinct keys are distinct

@@ -1,5 +1,5 @@
 -- A row of the fact has its combination exactly where it is selected by key sets, and picks find the values of that combination.
-use Rattle.std.proofs.Common.{◌≡◌, ℕ, suc, ◌+◌, ◌<◌, ◌==◌, Bool, true, false, not, ◌&&◌, ◌||◌, List, [], ◌∷◌, map, filter, find, length, slice_get, slice_index_or, Option, Some, None, option_map, cond, if◌then◌else◌, refl, sym, ap, ◌∙◌, subst, arith}
+use Rattle.std.proofs.Common.{◌≡◌, ℕ, suc, ◌+◌, ◌<◌, ◌==◌, Bool, true, false, not, ◌&&◌, ◌||◌, List, [], ◌∷◌, map, filter, find, length, slice_get, slice_index_or, Option, Some, None, option_map, if◌then◌else◌, refl, sym, ap, ◌∙◌, subst, arith}
 use Rattle.std.specs.Prelude.{pos}
 use Rattle.std.specs.List.{list_all, list_any, zip, position_or_len}
 use Rattle.std.specs.Option.{is_some, option_and_then}
@@ -11,7 +11,7 @@ use Rattle.blink_base.specs.declared.value.Value.TheVariants.{Int}
 use Rattle.blink_base.specs.Values.{Row, same_value}
 use Rattle.blink_lists.specs.Lists.{numbered, numbered_from}
 use Rattle.star_sql.specs.declared.ast.Select.{Select}
-use Rattle.star_meaning.specs.Names.{Scope, FromEntry, Combination, value_at}
+use Rattle.star_meaning.specs.Names.{Scope, FromEntry, Combination}
 use Rattle.star_bind.specs.declared.query.Query.{Query}
 use Rattle.star_bind.specs.declared.query.Tie.{Tie}
 use Rattle.star_bind.specs.declared.query.ColumnRef.{ColumnRef}
@@ -19,17 +19,16 @@ use Rattle.star_bind.specs.StarForm.{ties_of}
 use Rattle.star_bind.specs.BoundAnswer.{ref_value}
 use Rattle.star_bind.specs.BoundQuery.{Schemas, scope_of, query_in, query_of}
 use Rattle.star_bind.specs.Laws.{value_in, row_of_key, tied_row, may_hold}
-use Rattle.late_decode.specs.declared.plan.Pick.TheVariants.{Fact, Dimension}
 use Rattle.code_join.specs.Keys.{Keyed, is_key, entry_at, payload_of}
 use Rattle.code_join.specs.KeyLaws.{EntriesOfKeys}
-use Rattle.code_group.specs.Entries.{picked_beside, has_keys}
+use Rattle.code_group.specs.Entries.{picked_beside}
 use Rattle.dim_filter.specs.Entries.{entry_of}
 use Rattle.blink_lists.proofs.AllLemmas.{all-alike}
 use Rattle.blink_lists.proofs.FindLemmas.{find-map}
-use Rattle.blink_lists.proofs.BoolLemmas.{or-true, and-true, all-and, all-swap, all-guarded}
+use Rattle.blink_lists.proofs.BoolLemmas.{and-true, all-and, all-swap, all-guarded}
 use Rattle.star_bind.specs.Joins.{is_wanted, key_at, wanted_if, wanted_beside, joined_row}
-use Rattle.star_select.specs.KeySets.{wanted_rows, keyed_of, key_maps, is_selected, MayBeAsked, SelectsByKeys, PicksByPlace}
-use Rattle.star_select.specs.Picks.{same_ref, named_refs, wanted_columns, wanted_place, tie_place, pick_if, pick_of, tied_columns}
+use Rattle.star_select.specs.KeySets.{keyed_of, key_maps, is_selected, MayBeAsked, SelectsByKeys, PicksByPlace}
+use Rattle.star_select.specs.Picks.{same_ref, named_refs, wanted_columns, pick_if, pick_of, tied_columns}
 use Rattle.star_bind.proofs.TieLemmas.{Each, IsTie}
 use Rattle.star_bind.proofs.StarLemmas.{all-each, IsPart}
 use Rattle.star_bind.proofs.AcceptanceLemmas.{Accepted, accepted, scope_accepted, parts_from}

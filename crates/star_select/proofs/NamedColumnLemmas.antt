@@ -1,5 +1,5 @@
 -- The columns that items and groups of a query name are there.
-use Rattle.std.proofs.Common.{◌≡◌, ◌<◌, ◌==◌, ℕ, Bool, true, false, ◌&&◌, ◌||◌, List, [], ◌∷◌, ◌++◌, map, filter, flat_map, length, slice_get, Option, Some, None, cond, refl, sym, ap, ◌∙◌, true≢false}
+use Rattle.std.proofs.Common.{◌≡◌, ◌<◌, ◌==◌, Bool, true, false, ◌&&◌, ◌||◌, List, [], ◌∷◌, ◌++◌, map, filter, flat_map, length, slice_get, Option, Some, None, cond, refl, sym, ap, ◌∙◌, true≢false}
 use Rattle.std.specs.List.{list_any, list_all}
 use Rattle.std.specs.Option.{option_and_then, option_map_or, is_some}
 use Rattle.std.proofs.lemmas.Bool.{eqb-true, eq-eqb}
@@ -73,8 +73,8 @@ pub refs-there : (scope : Scope) (query : Query) → HasShape scope query → li
 refs-there scope query shape =
     list_all-append (is_ref scope) (flat_map item_refs query.items) query.groups
     ∙ and_both (list_all (is_ref scope) (flat_map item_refs query.items)) (list_all (is_ref scope) query.groups)
-      (all-flat_map (is_ref scope) item_refs query.items ∙ all-imply (is_item scope) (λ i. list_all (is_ref scope) (item_refs i)) (λ i h. item-there scope i h) query.items shape.items)
-      shape.groups
+    (all-flat_map (is_ref scope) item_refs query.items ∙ all-imply (is_item scope) (λ i. list_all (is_ref scope) (item_refs i)) (λ i h. item-there scope i h) query.items shape.items)
+    shape.groups
 
 pub ref-within : (scope : Scope) (r : ColumnRef) → is_ref scope r ≡ true → r.table < length scope
 ref-within scope r h = by (slice_get scope r.table) refl h
@@ -96,6 +96,6 @@ pub all-named : (scope : Scope) (query : Query) → HasShape scope query
 all-named scope query shape =
     let named : ColumnRef → Bool = is_named scope query in
     let all : list_all named (flat_map item_refs query.items ++ query.groups) ≡ true =
-        all_both (λ r. list_any (same_ref r) (named_refs query)) (is_ref scope) (named_refs query) (all-self same_ref (λ (r : ColumnRef). r) same_ref-self (named_refs query)) (refs-there scope query shape) in
+    all_both (λ r. list_any (same_ref r) (named_refs query)) (is_ref scope) (named_refs query) (all-self same_ref (λ (r : ColumnRef). r) same_ref-self (named_refs query)) (refs-there scope query shape) in
     let b = both (list_all named (flat_map item_refs query.items)) (list_all named query.groups) (sym (list_all-append named (flat_map item_refs query.items) query.groups) ∙ all) in
     (sym (all-flat_map named item_refs query.items) ∙ b.0, b.1)

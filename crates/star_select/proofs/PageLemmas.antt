@@ -1,5 +1,5 @@
 -- The selected rows of a page of the fact are joined, and what is summed of them is good whole numbers.
-use Rattle.std.proofs.Common.{◌≡◌, ◌<◌, ◌==◌, ◌*◌, ℕ, Bool, true, ◌&&◌, List, [], ◌++◌, map, filter, flat_map, take, drop, length, slice_get, slice_index_or, Some, refl, sym, ap, ◌∙◌}
+use Rattle.std.proofs.Common.{◌≡◌, ◌<◌, ◌*◌, ℕ, Bool, true, ◌&&◌, List, [], flat_map, take, drop, length, sym, ap, ◌∙◌}
 use Rattle.std.specs.List.{list_all}
 use Rattle.std.proofs.lemmas.List.{take-append-drop}
 use Rattle.std.proofs.lemmas.List.Folds.{list_all-append, list_all-map}
@@ -9,11 +9,10 @@ use Rattle.blink_lists.specs.declared.limits.TheConstants.{PAGE_ROWS}
 use Rattle.blink_lists.proofs.AllLemmas.{all_at, all-flat_map}
 use Rattle.blink_lists.proofs.BoolLemmas.{all_both}
 use Rattle.blink_lists.proofs.GroupLemmas.{both}
-use Rattle.star_sql.specs.declared.ast.Select.{Select}
 use Rattle.star_bind.specs.declared.query.Query.{Query}
 use Rattle.star_bind.specs.BoundQuery.{scope_of, query_of}
 use Rattle.star_bind.specs.Joins.{is_wanted}
-use Rattle.cell_layout.specs.Image.{TableImage, CellImage, cell_at, decoded_row, cell_rows}
+use Rattle.cell_layout.specs.Image.{TableImage, cell_at, decoded_row, cell_rows}
 use Rattle.cell_layout.specs.Valid.{are_codes, is_cell, is_valid}
 use Rattle.cell_layout.proofs.PlacedImageLemmas.{valid_parts}
 use Rattle.cell_layout.proofs.RowFitLemmas.{valid_fits}
@@ -53,10 +52,10 @@ pages_are_joined by_codes named sums schemas s images image cell page has here l
     let row : List ℕ → Row = decoded_row image.columns (cell_at image cell).classes in
     let good : List ℕ → Bool = λ codes. are_codes image.columns (cell_at image cell).classes codes && fits image.schema (row codes) in
     let rows = in-page good (cell_at image cell).rows (page * PAGE_ROWS) PAGE_ROWS
-        (all_both (are_codes image.columns (cell_at image cell).classes) (λ codes. fits image.schema (row codes)) (cell_at image cell).rows parts.1 (cell-fits image cell valid l)) in
+    (all_both (are_codes image.columns (cell_at image cell).classes) (λ codes. fits image.schema (row codes)) (cell_at image cell).rows parts.1 (cell-fits image cell valid l)) in
     let names = named schemas s images image has here in
     let selected : (codes : List ℕ) → are_codes image.columns (cell_at image cell).classes codes ≡ true → codes_selected image.columns (cell_at image cell).classes query keys codes ≡ true → is_selected query keys (row codes) ≡ true
-        = λ codes g c. sym (by_codes image.columns (cell_at image cell).classes codes query keys parts.0 g names) ∙ c in
+    = λ codes g c. sym (by_codes image.columns (cell_at image cell).classes codes query keys parts.0 g names) ∙ c in
     record {
       joined = filter-good good (codes_selected image.columns (cell_at image cell).classes query keys) (λ codes. has_keys (tied_columns query) keys (row codes))
           (λ codes w c.

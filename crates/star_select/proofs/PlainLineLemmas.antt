@@ -1,5 +1,5 @@
 -- Where a line stands for a row, groups give the lines of their rows, as often as there are rows.
-use Rattle.std.proofs.Common.{◌≡◌, ℕ, pos, ◌+◌, Bool, true, false, not, ◌&&◌, List, [], ◌∷◌, ◌++◌, map, length, slice_index_or, refl, sym, ap, ◌∙◌, subst, true≢false, append_assoc, length-append}
+use Rattle.std.proofs.Common.{◌≡◌, ℕ, pos, ◌+◌, Bool, true, not, ◌&&◌, List, [], ◌∷◌, ◌++◌, map, length, slice_index_or, refl, sym, ap, ◌∙◌, subst, true≢false, append_assoc, length-append}
 use Rattle.std.specs.Prelude.{replicate}
 use Rattle.std.specs.List.{list_all, flat_map}
 use Rattle.blink_base.specs.declared.value.Value.{Value}
@@ -45,8 +45,8 @@ module _ {A : Type 0} (g : A → Value) where
   key-places (x ∷ xs) before n e =
       let longer : length (before ++ g x ∷ []) ≡ n + 1 = length-append before (g x ∷ []) ∙ ap (λ j. j + 1) e in
       let moved : map (λ (p : ℕ × A). field_of (slice_index_or (before ++ g x ∷ map g xs) p.0 (Int (pos 0)))) (numbered_from (n + 1) xs)
-          ≡ map (λ (p : ℕ × A). field_of (slice_index_or ((before ++ g x ∷ []) ++ map g xs) p.0 (Int (pos 0)))) (numbered_from (n + 1) xs)
-          = λ i. map (λ (p : ℕ × A). field_of (slice_index_or (sym (append_assoc before (g x ∷ []) (map g xs)) i) p.0 (Int (pos 0)))) (numbered_from (n + 1) xs) in
+      ≡ map (λ (p : ℕ × A). field_of (slice_index_or ((before ++ g x ∷ []) ++ map g xs) p.0 (Int (pos 0)))) (numbered_from (n + 1) xs)
+      = λ i. map (λ (p : ℕ × A). field_of (slice_index_or (sym (append_assoc before (g x ∷ []) (map g xs)) i) p.0 (Int (pos 0)))) (numbered_from (n + 1) xs) in
       let whole = moved ∙ key-places xs (before ++ g x ∷ []) (n + 1) longer in
       let first = ap field_of (seam before (g x) (map g xs) (Int (pos 0)) n e) in
       λ i. first i ∷ whole i
@@ -99,17 +99,17 @@ module _ {X : Type 0} (query : Query) (combination : X → Combination) (picked 
       let keys : List Row = once_each same_row (map key xs) in
       let of_key : Row → Line = λ k. group_line measures slots (k, []) in
       let each : map (bound_line query.items) (map (λ r. r ∷ []) (map combination xs)) ≡ map (λ x. of_key (key x)) xs =
-          map-map (bound_line query.items) (λ (r : Combination). r ∷ []) (map combination xs)
-          ∙ map-map (λ (r : Combination). bound_line query.items (r ∷ [])) combination xs
-          ∙ map-alike (λ x. bound_line query.items (combination x ∷ [])) (λ x. of_key (key x)) (λ x. sym (row-line [] bare x)) xs in
+      map-map (bound_line query.items) (λ (r : Combination). r ∷ []) (map combination xs)
+      ∙ map-map (λ (r : Combination). bound_line query.items (r ∷ [])) combination xs
+      ∙ map-alike (λ x. bound_line query.items (combination x ∷ [])) (λ x. of_key (key x)) (λ x. sym (row-line [] bare x)) xs in
       let repeated : map (λ x. of_key (key x)) (flat_map (with_key same_row key xs) keys) ≡ lines_of measures slots true (grouped same_row measures key picked xs) =
-          map-flat (λ x. of_key (key x)) (with_key same_row key xs) keys
-          ∙ flat-same (λ k. map (λ x. of_key (key x)) (with_key same_row key xs k)) (λ k. replicate (length (map picked (with_key same_row key xs k))) (of_key k))
-            (λ k. replicated (λ x. same_row k (key x)) (λ x. of_key (key x)) (of_key k) (λ x e. ap of_key (sym (tells.one k (key x) e))) (with_key same_row key xs k) (all-passing (λ x. same_row k (key x)) xs)
-            ∙ ap (λ n. replicate n (of_key k)) (sym (map-length picked (with_key same_row key xs k)))) keys
-          ∙ flat-same (λ k. replicate (length (map picked (with_key same_row key xs k))) (of_key k))
-            (λ k. replicate (length (map picked (with_key same_row key xs k))) (group_line measures slots (k, parts_over measures (map picked (with_key same_row key xs k)))))
-            (λ k. ap (replicate (length (map picked (with_key same_row key xs k)))) (sym (only-key k (parts_over measures (map picked (with_key same_row key xs k)))))) keys
-          ∙ sym (flat-of-map (λ (group : Row × List Part). replicate (line_count true group.1) (group_line measures slots group)) (λ k. (k, parts_over measures (map picked (with_key same_row key xs k)))) keys) in
+      map-flat (λ x. of_key (key x)) (with_key same_row key xs) keys
+      ∙ flat-same (λ k. map (λ x. of_key (key x)) (with_key same_row key xs k)) (λ k. replicate (length (map picked (with_key same_row key xs k))) (of_key k))
+      (λ k. replicated (λ x. same_row k (key x)) (λ x. of_key (key x)) (of_key k) (λ x e. ap of_key (sym (tells.one k (key x) e))) (with_key same_row key xs k) (all-passing (λ x. same_row k (key x)) xs)
+      ∙ ap (λ n. replicate n (of_key k)) (sym (map-length picked (with_key same_row key xs k)))) keys
+      ∙ flat-same (λ k. replicate (length (map picked (with_key same_row key xs k))) (of_key k))
+      (λ k. replicate (length (map picked (with_key same_row key xs k))) (group_line measures slots (k, parts_over measures (map picked (with_key same_row key xs k)))))
+      (λ k. ap (replicate (length (map picked (with_key same_row key xs k)))) (sym (only-key k (parts_over measures (map picked (with_key same_row key xs k)))))) keys
+      ∙ sym (flat-of-map (λ (group : Row × List Part). replicate (line_count true group.1) (group_line measures slots group)) (λ k. (k, parts_over measures (map picked (with_key same_row key xs k)))) keys) in
       subst (λ l. Rearranged l (lines_of measures slots true (grouped same_row measures key picked xs))) (sym each)
       (subst (λ l. Rearranged (map (λ x. of_key (key x)) xs) l) repeated (map-rearranged (λ x. of_key (key x)) (groups_rearrange same_row tells key xs)))

@@ -1,5 +1,5 @@
 -- What calls ask of the parts of a query over images.
-use Rattle.std.proofs.Common.{◌≡◌, ◌<◌, ◌==◌, ℕ, zero, suc, Bool, true, false, not, ◌&&◌, ◌||◌, List, [], ◌∷◌, map, filter, length, nat_lt, nat_le, slice_get, slice_index_or, get_or, Option, Some, None, All, refl, sym, ap, ◌∙◌, subst, true≢false, arith}
+use Rattle.std.proofs.Common.{◌≡◌, ◌<◌, ◌==◌, ℕ, zero, suc, Bool, true, false, not, ◌&&◌, ◌||◌, List, [], ◌∷◌, map, filter, length, nat_lt, nat_le, slice_get, slice_index_or, get_or, Option, Some, None, refl, sym, ap, ◌∙◌, subst, true≢false, arith}
 use Rattle.std.specs.Prelude.{unwrap_or, IsSome}
 use Rattle.std.specs.List.{list_all, list_any, zip}
 use Rattle.std.specs.Option.{option_map_or, is_some}
@@ -18,12 +18,10 @@ use Rattle.star_bind.specs.declared.query.ColumnRef.{ColumnRef}
 use Rattle.star_bind.specs.declared.query.ColumnTest.{ColumnTest}
 use Rattle.star_bind.specs.declared.query.Conjunction.{Conjunction}
 use Rattle.star_bind.specs.declared.query.Query.{Query}
-use Rattle.star_bind.specs.declared.query.Tie.{Tie}
 use Rattle.star_bind.specs.declared.limits.TheConstants.{MOST_CONJUNCTIONS}
-use Rattle.star_bind.specs.BoundAnswer.{ref_value}
 use Rattle.star_bind.specs.BoundQuery.{Schemas, scope_of, query_in, query_of}
-use Rattle.star_bind.specs.Joins.{filters_at, key_in, key_at, joined_row}
-use Rattle.star_bind.specs.QueryShape.{column_count, is_ref, is_number_ref, is_tie, is_conjunction, is_condition_on, HasShape, QueriesHaveShape}
+use Rattle.star_bind.specs.Joins.{filters_at, key_in, joined_row}
+use Rattle.star_bind.specs.QueryShape.{column_count, is_ref, is_number_ref, is_tie, is_conjunction, is_condition_on, QueriesHaveShape}
 use Rattle.star_bind.proofs.AcceptanceLemmas.{accepted, scope_accepted}
 use Rattle.star_bind.proofs.FactRowLemmas.{query-is}
 use Rattle.cell_layout.specs.Image.{TableImage}
@@ -31,11 +29,10 @@ use Rattle.cell_layout.specs.Valid.{is_valid}
 use Rattle.cell_scan.specs.ValueTests.{ValueTest}
 use Rattle.code_join.specs.Keys.{Keyed}
 use Rattle.code_group.specs.Entries.{picked_beside}
-use Rattle.code_group.specs.Plans.{is_good_number, pick_there, plan_there, sums_numbers}
-use Rattle.dim_filter.specs.Entries.{key_column}
+use Rattle.code_group.specs.Plans.{is_good_number, pick_there, sums_numbers}
 use Rattle.star_select.specs.CodeSelection.{conjunction_tests, key_tests, put_if, put_test, put_tests, fact_tests}
 use Rattle.star_select.specs.ImageAnswer.{rows_in, image_keys, HasImages, ImagesMayBeAsked}
-use Rattle.star_select.specs.KeySets.{key_maps, is_selected, MayBeAsked, SelectsByKeys, PicksByPlace}
+use Rattle.star_select.specs.KeySets.{key_maps, MayBeAsked, SelectsByKeys, PicksByPlace}
 use Rattle.star_select.specs.Picks.{same_ref, named_refs, wanted_columns, pick_of, tied_columns}
 use Rattle.star_select.specs.Preconditions.{PlansAreThere, SumsAreNumbers, IsDimension, TiesHaveDimensions, FactTestsApart}
 use Rattle.star_select.specs.QueryPlan.{plan_of}
@@ -180,12 +177,15 @@ ties_have_dimensions shaped schemas s images place tie has at =
     by (Some entry) e k all =
         let (image, here, same) = image-at (scope_of schemas s) images has.same tie.dimension entry e in
         let many : length image.columns ≡ length entry.schema.columns = columns-as-many image (all-place is_valid images tie.dimension image has.valid here) ∙ ap (λ (x : Schema). length x.columns) same in
-        let wanted = ap (λ n. list_all (λ c. nat_lt c n) (wanted_columns (query_of schemas s) tie.dimension)) many ∙ wanted-there (scope_of schemas s) (query_of schemas s) tie.dimension entry e all in
-        (image, here, record {
-          key = key-some image.schema.key (ap (λ (x : Schema). is_some x.key) same ∙ k);
-          column = ap (λ (o : Option FromEntry). option_map_or (λ x. key_in x.schema.key) o 0) e ∙ ap (λ (x : Schema). key_in x.key) (sym same) ∙ key-column image.schema.key;
-          wanted = λ i d l. ltb-true (get_or (wanted_columns (query_of schemas s) tie.dimension) i d) (length image.columns) (all_at (λ c. nat_lt c (length image.columns)) (wanted_columns (query_of schemas s) tie.dimension) i d wanted l);
-        })
+        let wanted = ap (λ n. list_all (λ c. nat_lt c n) (wanted_columns (query_of schemas s) tie.dimension)) many ∙ wanted-there (scope_of schemas s) (query_of schemas s) tie.dimension entry e all in (
+          image,
+          here,
+          record {
+            key = key-some image.schema.key (ap (λ (x : Schema). is_some x.key) same ∙ k);
+            column = ap (λ (o : Option FromEntry). option_map_or (λ x. key_in x.schema.key) o 0) e ∙ ap (λ (x : Schema). key_in x.key) (sym same) ∙ key-column image.schema.key;
+            wanted = λ i d l. ltb-true (get_or (wanted_columns (query_of schemas s) tie.dimension) i d) (length image.columns) (all_at (λ c. nat_lt c (length image.columns)) (wanted_columns (query_of schemas s) tie.dimension) i d wanted l);
+          },
+        )
 
 -- ---- tests
 

@@ -1,5 +1,5 @@
 -- The lines of all groups are those of a bound query.
-use Rattle.std.proofs.Common.{◌≡◌, ℕ, Bool, true, false, not, ◌&&◌, ◌||◌, List, [], ◌∷◌, map, filter, refl, sym, ap, ◌∙◌, subst, true≢false, inl, inr}
+use Rattle.std.proofs.Common.{◌≡◌, Bool, true, false, not, ◌&&◌, ◌||◌, List, [], ◌∷◌, map, filter, refl, sym, ap, ◌∙◌, subst, true≢false, inl, inr}
 use Rattle.std.specs.List.{list_any, list_all}
 use Rattle.std.proofs.lemmas.List.Folds.{list_all-map}
 use Rattle.std.proofs.lemmas.List.Concat.{flat_map_single}
@@ -22,7 +22,6 @@ use Rattle.star_bind.specs.declared.query.Query.{Query}
 use Rattle.star_bind.specs.BoundAnswer.{ref_value, bound_key, bound_groups, bound_line, bound_answer, is_total}
 use Rattle.late_decode.specs.declared.plan.LineOrder.{LineOrder}
 use Rattle.late_decode.specs.declared.plan.Measure.{Measure}
-use Rattle.late_decode.specs.declared.plan.Part.{Part}
 use Rattle.late_decode.specs.declared.plan.Slot.{Slot}
 use Rattle.late_decode.specs.GroupLines.{group_line, lines_of, or_single, finished}
 use Rattle.late_decode.specs.Groups.{Grouped, grouped}
@@ -31,8 +30,8 @@ use Rattle.late_decode.specs.PlannedRows.{groups_by_plan}
 use Rattle.late_decode.specs.declared.plan.Measure.TheVariants as measure
 use Rattle.star_select.specs.GroupAnswer.{stands_in, IsGrouped, answer_of_groups}
 use Rattle.star_select.specs.Picks.{item_refs, pick_of}
-use Rattle.star_select.specs.QueryPlan.{has_total, is_plain, is_single, keys_if, measures_if, slots_if, plan_of, finish_of}
-use Rattle.star_select.proofs.GroupLineLemmas.{map-map, map-alike, map-where, key, is_of, is_right, group-line}
+use Rattle.star_select.specs.QueryPlan.{has_total, is_plain, is_single, keys_if, measures_if, slots_if, plan_of}
+use Rattle.star_select.proofs.GroupLineLemmas.{map-map, map-alike, map-where, key, is_right, group-line}
 use Rattle.star_select.proofs.ListLemmas.{all-pass, none-not, some-filtered, all-self}
 use Rattle.star_select.proofs.PlainLineLemmas.{plain-lines}
 
@@ -93,9 +92,9 @@ module _ {X : Type 0} (query : Query) (combination : X → Combination) (picked 
       ap (λ ks. map (λ k. filter (λ r. same_row k (bound_key query.groups r)) (map combination xs)) (once_each same_row ks))
       (map-map (bound_key query.groups) combination xs ∙ map-alike (λ x. bound_key query.groups (combination x)) key_at same xs)
       ∙ map-alike (λ k. filter (λ r. same_row k (bound_key query.groups r)) (map combination xs)) (λ k. map combination (with_key same_row key_at xs k))
-        (λ k. filter-map (λ r. same_row k (bound_key query.groups r)) combination xs
-        ∙ ap (map combination) (filter-alike (λ x. same_row k (bound_key query.groups (combination x))) (λ x. same_row k (key_at x)) (λ x. ap (same_row k) (same x)) xs))
-        (once_each same_row (map key_at xs))
+      (λ k. filter-map (λ r. same_row k (bound_key query.groups r)) combination xs
+      ∙ ap (map combination) (filter-alike (λ x. same_row k (bound_key query.groups (combination x))) (λ x. same_row k (key_at x)) (λ x. ap (same_row k) (same x)) xs))
+      (once_each same_row (map key_at xs))
 
   -- whether a key stands at some row
   abbrev is_there : List X → Row → Bool
@@ -109,8 +108,8 @@ module _ {X : Type 0} (query : Query) (combination : X → Combination) (picked 
   group-lines right xs =
       map-map (group_line measures slots) (λ k. (k, parts_over measures (map picked (with_key same_row key_at xs k)))) (once_each same_row (map key_at xs))
       ∙ map-where (is_there xs) (λ k. group_line measures slots (k, parts_over measures (map picked (with_key same_row key_at xs k)))) (λ k. bound_line query.items (map combination (with_key same_row key_at xs k)))
-        (λ k there. group-line query combination picked named value-is tells right k (with_key same_row key_at xs k) (all-passing (λ x. same_row k (key_at x)) xs) (inr (some-filtered (λ x. same_row k (key_at x)) xs there)))
-        (once_each same_row (map key_at xs)) (each-there xs)
+      (λ k there. group-line query combination picked named value-is tells right k (with_key same_row key_at xs k) (all-passing (λ x. same_row k (key_at x)) xs) (inr (some-filtered (λ x. same_row k (key_at x)) xs there)))
+      (once_each same_row (map key_at xs)) (each-there xs)
       ∙ sym (map-map (bound_line query.items) (λ k. map combination (with_key same_row key_at xs k)) (once_each same_row (map key_at xs)))
 
   -- each group gives its line
@@ -131,8 +130,8 @@ module _ {X : Type 0} (query : Query) (combination : X → Combination) (picked 
   single-group e [] = λ i. ([], sym (no-parts measures) i) ∷ []
   single-group e (x ∷ xs) =
       let keys : once_each same_row (map key_at (x ∷ xs)) ≡ [] ∷ [] =
-          ap (λ k. k ∷ filter (λ y. not (same_row k y)) (once_each same_row (map key_at xs))) (one-key e x)
-          ∙ ap (λ l. [] ∷ l) (none-not (same_row []) (once_each same_row (map key_at xs)) (all-once_each same_row (same_row []) (map key_at xs) (list_all-map (same_row []) key_at xs ∙ all-of-key e xs))) in
+      ap (λ k. k ∷ filter (λ y. not (same_row k y)) (once_each same_row (map key_at xs))) (one-key e x)
+      ∙ ap (λ l. [] ∷ l) (none-not (same_row []) (once_each same_row (map key_at xs)) (all-once_each same_row (same_row []) (map key_at xs) (list_all-map (same_row []) key_at xs ∙ all-of-key e xs))) in
       ap (λ ks. or_single true measures (map (λ k. (k, parts_over measures (map picked (with_key same_row key_at (x ∷ xs) k)))) ks)) keys
       ∙ (let all = all-pass (λ y. same_row [] (key_at y)) (x ∷ xs) (all-of-key e (x ∷ xs)) in λ i. ([], parts_over measures (map picked (all i))) ∷ [])
 
@@ -199,5 +198,5 @@ module _ {X : Type 0} (query : Query) (combination : X → Combination) (picked 
       let keys : List LineKey = map (λ (o : BoundOrder). record { item = o.item; falling = o.falling }) query.order in
       let lines = printed keys query.limit (lines_meant query.grouped (has_total query) xs) (lines_given (is_plain query) (is_single query) xs) (lines-rearranged xs) in
       let ordered : map (λ (o : LineOrder). record { item = o.slot; falling = o.falling }) (map (λ (o : BoundOrder). record { slot = o.item; falling = o.falling }) query.order) ≡ keys =
-          map-map (λ (o : LineOrder). record { item = o.slot; falling = o.falling }) (λ (o : BoundOrder). record { slot = o.item; falling = o.falling }) query.order in
+      map-map (λ (o : LineOrder). record { item = o.slot; falling = o.falling }) (λ (o : BoundOrder). record { slot = o.item; falling = o.falling }) query.order in
       λ i. record { names = query.names; lines = (lines ∙ ap (λ ks. printed_lines ks query.limit (lines_given (is_plain query) (is_single query) xs)) (sym ordered)) i }

@@ -1,7 +1,7 @@
 -- What a query sums of a row that fits is good whole numbers.
-use Rattle.std.proofs.Common.{◌≡◌, ◌<◌, ◌==◌, ℕ, Bool, true, false, ◌&&◌, List, [], ◌∷◌, length, slice_get, slice_index_or, Option, Some, None, refl, sym, ap, ◌∙◌, true≢false}
+use Rattle.std.proofs.Common.{◌≡◌, ◌==◌, Bool, true, false, ◌&&◌, length, slice_get, slice_index_or, Option, Some, None, refl, sym, ap, ◌∙◌, true≢false}
 use Rattle.std.specs.Prelude.{pos}
-use Rattle.std.specs.List.{list_all, list_any, zip}
+use Rattle.std.specs.List.{list_all, zip}
 use Rattle.std.specs.Option.{option_and_then, option_map_or}
 use Rattle.std.proofs.lemmas.Bool.{eqb-true}
 use Rattle.std.proofs.lemmas.Option.{slice_get_within}
@@ -11,10 +11,10 @@ use Rattle.blink_base.specs.declared.value.Kind.TheVariants as kind
 use Rattle.blink_base.specs.declared.value.Value.{Value}
 use Rattle.blink_base.specs.declared.value.Value.TheVariants.{Int, Text, Date}
 use Rattle.blink_base.specs.RowFits.{is_good, is_entry, fits}
-use Rattle.blink_base.specs.Values.{Row, kind_of, same_kind}
+use Rattle.blink_base.specs.Values.{Row, same_kind}
 use Rattle.blink_lists.proofs.BoolLemmas.{all_both}
-use Rattle.blink_lists.proofs.GroupLemmas.{both, and_both, all-imply}
-use Rattle.star_meaning.specs.Names.{Scope, FromEntry, column_at}
+use Rattle.blink_lists.proofs.GroupLemmas.{both, all-imply}
+use Rattle.star_meaning.specs.Names.{Scope, FromEntry}
 use Rattle.star_bind.specs.declared.query.ColumnRef.{ColumnRef}
 use Rattle.star_bind.specs.declared.query.BoundExpr.{BoundExpr}
 use Rattle.star_bind.specs.declared.query.BoundExpr.TheVariants.{One, Times, Plus, Minus}
@@ -24,7 +24,7 @@ use Rattle.star_bind.specs.declared.query.Query.{Query}
 use Rattle.star_bind.specs.QueryShape.{is_number_ref, is_number_expr, is_item, HasShape}
 use Rattle.code_group.specs.Plans.{is_good_number}
 use Rattle.star_select.specs.Picks.{expr_refs, item_refs}
-use Rattle.star_select.proofs.ListLemmas.{some-same, none-some, zip-place, all-place}
+use Rattle.star_select.proofs.ListLemmas.{some-same, zip-place, all-place}
 use Rattle.star_select.proofs.NamedColumnLemmas.{is_named, all-named}
 use Rattle.star_select.proofs.PlanLemmas.{summed_refs}
 

@@ -1,25 +1,24 @@
 -- The keys of a tie are those of the wanted rows of its dimension's image.
-use Rattle.std.proofs.Common.{◌≡◌, ◌<◌, ◌==◌, ℕ, Bool, true, ◌&&◌, List, [], ◌∷◌, ◌++◌, map, filter, length, nat_lt, nat_le, slice_get, slice_index_or, Some, refl, sym, ap, ◌∙◌}
+use Rattle.std.proofs.Common.{◌≡◌, ℕ, true, ◌&&◌, List, [], ◌++◌, map, filter, length, nat_lt, nat_le, sym, ap, ◌∙◌}
 use Rattle.std.specs.List.{list_all, zip, flat_map}
 use Rattle.std.proofs.lemmas.List.Elements.{filter-append}
 use Rattle.std.proofs.lemmas.Option.{slice_get_within}
 use Rattle.blink_base.specs.declared.schema.Schema.{Schema}
 use Rattle.blink_base.specs.Values.{Row}
 use Rattle.blink_lists.proofs.GroupLemmas.{both, all-imply}
-use Rattle.star_sql.specs.declared.ast.Select.{Select}
 use Rattle.star_meaning.specs.Names.{Scope, FromEntry}
 use Rattle.star_bind.specs.declared.query.Conjunction.{Conjunction}
 use Rattle.star_bind.specs.declared.query.Query.{Query}
 use Rattle.star_bind.specs.declared.limits.TheConstants.{MOST_CONJUNCTIONS}
-use Rattle.star_bind.specs.BoundQuery.{Schemas, scope_of, query_of}
+use Rattle.star_bind.specs.BoundQuery.{scope_of, query_of}
 use Rattle.star_bind.specs.Joins.{filters_at, is_wanted}
 use Rattle.star_bind.specs.QueryShape.{is_conjunction, is_condition_on, QueriesHaveShape}
-use Rattle.cell_layout.specs.Image.{TableImage, CellImage, cell_rows, rows_of}
+use Rattle.cell_layout.specs.Image.{TableImage, cell_rows, rows_of}
 use Rattle.cell_layout.specs.Valid.{is_cell, is_valid}
 use Rattle.cell_layout.proofs.PlacedImageLemmas.{valid_parts}
 use Rattle.dim_filter.specs.Entries.{entry_of, key_column}
 use Rattle.star_select.specs.CodeSelection.{codes_wanted, image_wanted, is_of_columns, WantedByCodes}
-use Rattle.star_select.specs.ImageAnswer.{rows_in, HasImages, KeysByCodes}
+use Rattle.star_select.specs.ImageAnswer.{rows_in, KeysByCodes}
 use Rattle.star_select.specs.KeySets.{wanted_rows}
 use Rattle.star_select.specs.Picks.{wanted_columns}
 use Rattle.star_select.specs.Preconditions.{ConditionsAreThere, TiesHaveDimensions}
@@ -35,7 +34,7 @@ conditions_are_there shaped schemas s images image table has here =
     let (entry, at, same) = entry-same scope images has.same table image here in
     let (e, pair, there) = zip-place [] scope query.filters table shape.as_many (slice_get_within scope table entry at) in
     let many : length image.columns ≡ length e.schema.columns =
-        columns-as-many image (all-place is_valid images table image has.valid here) ∙ ap (λ (x : Schema). length x.columns) same ∙ ap (λ (x : FromEntry). length x.schema.columns) (some-same entry e (sym at ∙ there)) in
+    columns-as-many image (all-place is_valid images table image has.valid here) ∙ ap (λ (x : Schema). length x.columns) same ∙ ap (λ (x : FromEntry). length x.schema.columns) (some-same entry e (sym at ∙ there)) in
     ap (λ n. is_condition_on n (filters_at query table)) many ∙ all-place (λ p. is_condition_on (length p.0.schema.columns) p.1) (zip scope query.filters) table (e, filters_at query table) shape.filters pair
 
 -- the conjunctions of a condition are of columns that are there
@@ -50,7 +49,7 @@ image-rows : WantedByCodes → (image : TableImage) (query : Query) (table : ℕ
 image-rows by_codes image query table cells named =
     filter-append (is_wanted query table) (flat_map (cell_rows image) image.cells) image.rest
     ∙ ap (λ (l : List Row). l ++ filter (is_wanted query table) image.rest)
-      (cells-passing image (is_wanted query table) (λ cell. codes_wanted image.columns cell.classes query table) (λ cell codes full good. by_codes image.columns cell.classes codes query table full good named) image.cells cells)
+    (cells-passing image (is_wanted query table) (λ cell. codes_wanted image.columns cell.classes query table) (λ cell codes full good. by_codes image.columns cell.classes codes query table full good named) image.cells cells)
 
 pub keys_by_codes : WantedByCodes → ConditionsAreThere → TiesHaveDimensions → KeysByCodes
 keys_by_codes by_codes conditions dimensions schemas s images image place tie has at here =
@@ -60,5 +59,5 @@ keys_by_codes by_codes conditions dimensions schemas s images image place tie ha
     let cells = (valid_parts image (all-place is_valid images tie.dimension image has.valid here)).cells in
     let named = conjunctions-named (length image.columns) (filters_at query tie.dimension) (conditions schemas s images image tie.dimension has here) in
     let rows : wanted_rows query (rows_in images) tie.dimension ≡ image_wanted image query tie.dimension =
-        ap (filter (is_wanted query tie.dimension)) (rows-at images tie.dimension image here) ∙ image-rows by_codes image query tie.dimension cells named in
+    ap (filter (is_wanted query tie.dimension)) (rows-at images tie.dimension image here) ∙ image-rows by_codes image query tie.dimension cells named in
     λ i. map (entry_of (key i) (wanted_columns query tie.dimension)) (rows i)

@@ -3,7 +3,6 @@ use Rattle.std.specs.Prelude.{◌≡◌, ◌==◌, ℕ, Bool, true, false, ◌&&
 use Rattle.std.specs.List.{list_any, list_all, flat_map, zip}
 use Rattle.blink_base.specs.Tests.{tree_holds}
 use Rattle.blink_base.specs.Values.{Row}
-use Rattle.star_bind.specs.declared.query.ColumnTest.{ColumnTest}
 use Rattle.star_bind.specs.declared.query.Conjunction.{Conjunction}
 use Rattle.star_bind.specs.declared.query.Query.{Query}
 use Rattle.star_bind.specs.Joins.{filters_at, is_wanted}

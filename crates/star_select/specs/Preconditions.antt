@@ -1,5 +1,5 @@
 -- What the calls that collect keys, scan, group and finish ask of the parts of a query over images. Source: this project's own.
-use Rattle.std.specs.Prelude.{◌≡◌, ◌<◌, ◌==◌, ℕ, Bool, true, false, ◌&&◌, not, List, map, filter, length, nat_lt, Some, None, IsSome, slice_get}
+use Rattle.std.specs.Prelude.{◌≡◌, ◌<◌, ◌==◌, ℕ, Bool, true, false, ◌&&◌, not, List, map, filter, length, Some, None, IsSome, slice_get}
 use Rattle.std.specs.List.{All, list_all, list_any}
 use Rattle.blink_base.specs.declared.value.Value.{Value}
 use Rattle.blink_base.specs.RowFits.{fits}
