@@ -1,5 +1,5 @@
 -- Files with one more record.
-use Rattle.std.proofs.Common.{◌≡◌, ℕ, ◌+◌, ◌++◌, List, [], codes, ◌∷◌, arith, refl}
+use Rattle.std.proofs.Common.{◌≡◌, ℕ, ◌+◌, ◌++◌, [], codes, ◌∷◌, arith}
 use Rattle.blink_gen.specs.Demo.{month_file, month_record, customer_file, customer_record, part_file, part_record, order_file, order_header}
 use Rattle.blink_gen.specs.Orders.{record_behind}
 use Rattle.blink_gen.specs.Records.{record_of}

@@ -1,5 +1,5 @@
 -- Steps of the generator.
-use Rattle.std.proofs.Common.{◌≡◌, ℕ, zero, suc, ◌+◌, ◌*◌, refl, sym, ap, ◌∙◌, zero-add, arith}
+use Rattle.std.proofs.Common.{◌≡◌, ℕ, zero, suc, ◌+◌, ◌*◌, sym, ap, ◌∙◌, zero-add, arith}
 use Rattle.blink_gen.specs.Generator.{next_state, state_after}
 
 state_after-+ : (n m x : ℕ) → state_after (n + m) x ≡ state_after n (state_after m x)

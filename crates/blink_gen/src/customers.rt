@@ -1,5 +1,5 @@
 // The file of customers.
-ghost use Rattle.std.specs.Prelude.{◌≡◌, ◌<◌, ◌++◌, ◌%◌, [], slice_index_or, IfOk, OnOk};
+ghost use Rattle.std.specs.Prelude.{◌≡◌, ◌++◌, ◌%◌, [], slice_index_or, IfOk, OnOk};
 ghost use Rattle.blink_gen.specs.Demo.{customer_file, customer_record, regions};
 
 use crate::fields::add_number;
