@@ -1,0 +1,5 @@
+pub mod Demo
+pub mod Examples
+pub mod Generator
+pub mod Orders
+pub mod Records
