@@ -1,5 +1,5 @@
 -- What is measured for an item over picked values is its value over the combinations that these are of.
-use Rattle.std.proofs.Common.{◌≡◌, suc, ℤ, pos, ◌+ℤ◌, ◌-ℤ◌, ◌*ℤ◌, Bool, true, List, [], ◌∷◌, map, length, refl, sym, ap, ◌∙◌, true≢false}
+use Rattle.std.proofs.Common.{◌≡◌, ℤ, pos, ◌+ℤ◌, ◌-ℤ◌, ◌*ℤ◌, Bool, true, List, [], ◌∷◌, map, length, refl, sym, ap, ◌∙◌, true≢false}
 use Rattle.std.specs.Prelude.{int_div}
 use Rattle.std.specs.List.{list_all}
 use Rattle.std.proofs.lemmas.List.{length-map}
