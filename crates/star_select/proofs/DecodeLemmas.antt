@@ -36,7 +36,7 @@ use Rattle.code_group.specs.GroupLaws.{selected_in}
 use Rattle.code_group.specs.Plans.{formula_picks, measure_picks, is_of_fact, fact_picks, fact_key_picks, fact_value_picks}
 use Rattle.dim_filter.specs.Entries.{entry_of}
 use Rattle.star_select.specs.CodeSelection.{fact_cells, fact_rest, SelectsByCodes}
-use Rattle.star_select.specs.Decodes.{selected_if, selected_rows, key_places, places_in, most_decodes, key_decodes, group_decodes, DecodesAddUp}
+use Rattle.star_select.specs.Decodes.{selected_if, selected_rows, key_places, named_places, most_decodes, key_decodes, group_decodes, DecodesAddUp}
 use Rattle.star_select.specs.ImageAnswer.{rows_in, image_keys, FactNamed}
 use Rattle.star_select.specs.KeySets.{wanted_rows, is_selected}
 use Rattle.star_select.specs.Picks.{expr_refs, item_refs, named_refs, wanted_columns, pick_if, pick_of}
@@ -134,12 +134,12 @@ plan-named query false e =
     let all = count-append (of_fact query) (flat_map item_refs query.items) query.groups in
     omega (arith, values, keys, all)
 
-fact-places : (query : Query) → fact_value_picks (plan_of query) + fact_key_picks (plan_of query) ≤ places_in query query.fact
+fact-places : (query : Query) → fact_value_picks (plan_of query) + fact_key_picks (plan_of query) ≤ named_places query query.fact
 fact-places query = let all = plan-named query (is_plain query) refl in omega (arith, all)
 
 -- ---- the wanted columns of a dimension
 
-wanted-places : (query : Query) (table : ℕ) → (table == query.fact) ≡ false → 1 + length (wanted_columns query table) ≤ places_in query table
+wanted-places : (query : Query) (table : ℕ) → (table == query.fact) ≡ false → 1 + length (wanted_columns query table) ≤ named_places query table
 wanted-places query table away =
     let of_table : ColumnRef → Bool = λ r. r.table == table in
     let few = length-once_each-le (λ x y. x == y) (map (λ (r : ColumnRef). r.column) (filter of_table (named_refs query))) in
@@ -235,33 +235,33 @@ module _ (query : Query) (scope : Scope) (tables : List (List Row)) (within : qu
   no-tie = count-none (λ (t : Tie). t.dimension == query.fact) query.ties (all-imply (is_tie scope query.fact) (λ (t : Tie). not (t.dimension == query.fact)) (λ t h. (tie-parts t h).1) query.ties ties)
 
   -- one table, with what the groups of the fact decode
-  one-table : (most : ℕ) → most ≤ length (selected_rows query scope tables query.fact) * places_in query query.fact → (d : ℕ) → (d == query.fact || count_by (λ (t : Tie). t.dimension == d) query.ties == 1) ≡ true
-      → count_by (λ (t : Tie). t.dimension == d) query.ties * of_keys d + cond (d == query.fact) most 0 ≤ length (selected_rows query scope tables d) * places_in query d
+  one-table : (most : ℕ) → most ≤ length (selected_rows query scope tables query.fact) * named_places query query.fact → (d : ℕ) → (d == query.fact || count_by (λ (t : Tie). t.dimension == d) query.ties == 1) ≡ true
+      → count_by (λ (t : Tie). t.dimension == d) query.ties * of_keys d + cond (d == query.fact) most 0 ≤ length (selected_rows query scope tables d) * named_places query d
   one-table most few d h = by (d == query.fact) refl h
     where
       by : (b : Bool) → (d == query.fact) ≡ b → (b || count_by (λ (t : Tie). t.dimension == d) query.ties == 1) ≡ true
-          → count_by (λ (t : Tie). t.dimension == d) query.ties * of_keys d + cond b most 0 ≤ length (selected_if b query scope tables d) * places_in query d
+          → count_by (λ (t : Tie). t.dimension == d) query.ties * of_keys d + cond b most 0 ≤ length (selected_if b query scope tables d) * named_places query d
       by true e k =
           let same : d ≡ query.fact = eqb-true d query.fact e in
           let none : count_by (λ (t : Tie). t.dimension == d) query.ties ≡ 0 = ap (λ n. count_by (λ (t : Tie). t.dimension == n) query.ties) same ∙ no-tie in
           let product : count_by (λ (t : Tie). t.dimension == d) query.ties * of_keys d ≡ 0 * of_keys d = ap (λ n. n * of_keys d) none in
-          let here : length (selected_rows query scope tables query.fact) * places_in query query.fact ≡ length (selected_if true query scope tables d) * places_in query d =
-          ap (λ c. length (selected_if c query scope tables query.fact) * places_in query query.fact) (eq-eqb query.fact query.fact refl) ∙ ap (λ n. length (selected_if true query scope tables n) * places_in query n) (sym same) in
+          let here : length (selected_rows query scope tables query.fact) * named_places query query.fact ≡ length (selected_if true query scope tables d) * named_places query d =
+          ap (λ c. length (selected_if c query scope tables query.fact) * named_places query query.fact) (eq-eqb query.fact query.fact refl) ∙ ap (λ n. length (selected_if true query scope tables n) * named_places query n) (sym same) in
           omega (arith, few, product, here)
       by false e k =
           let one : count_by (λ (t : Tie). t.dimension == d) query.ties ≡ 1 = eqb-true (count_by (λ (t : Tie). t.dimension == d) query.ties) 1 k in
           let product : count_by (λ (t : Tie). t.dimension == d) query.ties * of_keys d ≡ 1 * of_keys d = ap (λ n. n * of_keys d) one in
-          let less = mul-le (length (wanted_rows query tables d)) (1 + length (wanted_columns query d)) (length (wanted_rows query tables d)) (places_in query d) (omega arith) (wanted-places query d e) in
+          let less = mul-le (length (wanted_rows query tables d)) (1 + length (wanted_columns query d)) (length (wanted_rows query tables d)) (named_places query d) (omega arith) (wanted-places query d e) in
           omega (arith, product, less)
 
-  sums-within : (most : ℕ) → most ≤ length (selected_rows query scope tables query.fact) * places_in query query.fact → sum_by (λ (t : Tie). of_keys t.dimension) query.ties + most ≤ most_decodes query scope tables
+  sums-within : (most : ℕ) → most ≤ length (selected_rows query scope tables query.fact) * named_places query query.fact → sum_by (λ (t : Tie). of_keys t.dimension) query.ties + most ≤ most_decodes query scope tables
   sums-within most few =
       let dimensions : list_all (λ (t : Tie). nat_lt t.dimension (length scope)) query.ties ≡ true = all-imply (is_tie scope query.fact) (λ (t : Tie). nat_lt t.dimension (length scope)) (λ t h. (tie-parts t h).0) query.ties ties in
       let keys = ties-sum of_keys scope query.ties dimensions in
       let added = add-at query.fact most 0 query.fact (λ (p : ℕ × FromEntry). count_by (λ (t : Tie). t.dimension == p.0) query.ties * of_keys p.0) scope (omega arith) within in
       let less = sum-where (λ (p : ℕ × FromEntry). p.0 == query.fact || count_by (λ (t : Tie). t.dimension == p.0) query.ties == 1)
       (λ (p : ℕ × FromEntry). count_by (λ (t : Tie). t.dimension == p.0) query.ties * of_keys p.0 + cond (p.0 == query.fact) most 0)
-      (λ (p : ℕ × FromEntry). length (selected_rows query scope tables p.0) * places_in query p.0) (λ p h. one-table most few p.0 h) (numbered scope) counted in
+      (λ (p : ℕ × FromEntry). length (selected_rows query scope tables p.0) * named_places query p.0) (λ p h. one-table most few p.0 h) (numbered scope) counted in
       omega (arith, keys, added, less)
 
 -- ---- over images
@@ -295,6 +295,6 @@ decodes_add_up shaped by_codes named schemas s images image has here =
     ap (λ (l : List Row). length l) rows ∙ length-append (flat_map (selected_in image) (fact_cells image query keys)) (fact_rest image query keys) in
     let count = cells-long image (fact_cells image query keys) in
     let few = mul-le (sum_by (λ (cell : CellImage × List (List ℕ)). length cell.1) (fact_cells image query keys)) (fact_value_picks (plan_of query) + fact_key_picks (plan_of query))
-    (length (selected_rows query scope tables query.fact)) (places_in query query.fact) (omega (arith, long, count)) (fact-places query) in
+    (length (selected_rows query scope tables query.fact)) (named_places query query.fact) (omega (arith, long, count)) (fact-places query) in
     let all = sums-within query scope tables shape.fact shape.ties (tables-tied schemas s has.free) (group_decodes image query keys) few in
     omega (arith, all, keys-long query scope tables)

@@ -52,7 +52,7 @@ column-within scope r entry h here = by (slice_get entry.schema.columns r.column
     by None e k = absurd (true≢false (sym k))
     by (Some c) e k = slice_get_within entry.schema.columns r.column c e
 
-module _ (scope : Scope) (s : Select) (fact : ℕ) (a : Accepted scope s fact) (tables : List (List Row)) (sized : length tables ≡ length scope) (held : list_all may_hold (zip scope tables) ≡ true) where
+module _ (scope : Scope) (s : Select) (fact : ℕ) (a : Accepted scope s fact) (tables : List (List Row)) (sized : length tables ≡ length scope) (allowed : list_all may_hold (zip scope tables) ≡ true) where
   abbrev query : Query
   query = query_in scope s fact
 
@@ -69,7 +69,7 @@ module _ (scope : Scope) (s : Select) (fact : ℕ) (a : Accepted scope s fact) (
         e,
         pair,
         here,
-        subst (λ n. IsPart scope fact ties own (n, (e, slice_index_or tables d []))) (omega arith) (each-place (IsPart scope fact ties own) 0 (zip scope tables) d (e, slice_index_or tables d []) (parts scope s fact a tables sized held) pair),
+        subst (λ n. IsPart scope fact ties own (n, (e, slice_index_or tables d []))) (omega arith) (each-place (IsPart scope fact ties own) 0 (zip scope tables) d (e, slice_index_or tables d []) (parts scope s fact a tables sized allowed) pair),
       )
 
   -- the tie of a dimension, and its place
@@ -135,7 +135,7 @@ module _ (scope : Scope) (s : Select) (fact : ℕ) (a : Accepted scope s fact) (
         let beside : wanted_beside query row (d, (e, slice_index_or tables d [])) ≡ Some (slice_index_or rows d []) =
         subst (λ n. wanted_beside query row (n, (e, slice_index_or tables d [])) ≡ Some (slice_index_or rows d [])) (omega arith)
         (there-place [] (wanted_beside query row) 0 (zip scope tables) rows all d (e, slice_index_or tables d []) pair) in
-        let holds = all-place may_hold (zip scope tables) d (e, slice_index_or tables d []) held pair in
+        let holds = all-place may_hold (zip scope tables) d (e, slice_index_or tables d []) allowed pair in
         let fit_all = (both (list_all (fits e.schema) (slice_index_or tables d [])) (has_own_keys e.schema.key (slice_index_or tables d [])) holds).0 in
         (e, at, by e at (d == fact) refl beside (all-part (fits e.schema) (own d) (slice_index_or tables d []) fit_all))
       where

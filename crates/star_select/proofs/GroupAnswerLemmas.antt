@@ -95,7 +95,7 @@ module _ (printed : LinesInAnyOrder) (totals : TotalsInAnyOrder) (tells : TellsR
         let all : list_all passes taken ≡ true = sym (all-rearranged passes same) ∙ all-passing passes fact in
         let found : Rearranged (filter_map joined fact) (filter_map joined taken) = subst (λ l. Rearranged l (filter_map joined taken)) (found-only joined fact) (found-rearranged joined same) in
         as_bound schemas s tables asked.free
-        ∙ answer-rearranged totals tells printed query (followed (joins schemas s tables asked.free asked.sized asked.held) found)
+        ∙ answer-rearranged totals tells printed query (followed (joins schemas s tables asked.free asked.sized asked.allowed) found)
         ∙ answer-over taken
         ∙ ap (λ l. answer_of_groups query (groups_of query keys l)) (all-pass passes taken all)
 

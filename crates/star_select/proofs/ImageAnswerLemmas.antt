@@ -68,7 +68,7 @@ images-may-hold (entry ∷ scope) (image ∷ images) same valid =
     and_both (may_hold (entry, rows_of image)) (list_all may_hold (zip scope (map rows_of images)))
     (image-may-hold image b.0 entry (ap (first_schema image.schema) same)) (images-may-hold scope images (ap other_schemas same) b.1)
 
-as-many : (schemas : Schemas) (s : Select) (images : List TableImage) → QueriesHaveShape → HasImages schemas s images → (length images ≡ length (scope_of schemas s)) × (length images ≡ length s.tables)
+pub as-many : (schemas : Schemas) (s : Select) (images : List TableImage) → QueriesHaveShape → HasImages schemas s images → (length images ≡ length (scope_of schemas s)) × (length images ≡ length s.tables)
 as-many schemas s images shaped has =
     let first : length images ≡ length (scope_of schemas s) = sym (length-map images (λ image. image.schema)) ∙ ap (λ (l : List Schema). length l) has.same ∙ length-map (scope_of schemas s) (λ entry. entry.schema) in
     (first, first ∙ sym (shaped schemas s has.formed has.free).tables ∙ names-as-many schemas s)
@@ -78,7 +78,7 @@ images_may_be_asked shaped schemas s images has = record {
   formed = has.formed;
   free = has.free;
   sized = length-map images rows_of ∙ (as-many schemas s images shaped has).1;
-  held = images-may-hold (scope_of schemas s) images has.same has.valid;
+  allowed = images-may-hold (scope_of schemas s) images has.same has.valid;
 }
 
 -- ---- what a query names of its fact

@@ -1,7 +1,8 @@
 -- What is measured for an item over picked values is its value over the combinations that these are of.
-use Rattle.std.proofs.Common.{◌≡◌, suc, ℤ, pos, ◌+ℤ◌, ◌-ℤ◌, ◌*ℤ◌, Bool, true, List, [], ◌∷◌, map, length, refl, sym, ap, ◌∙◌, true≢false}
+use Rattle.std.proofs.Common.{◌≡◌, ℤ, pos, ◌+ℤ◌, ◌-ℤ◌, ◌*ℤ◌, Bool, true, List, [], ◌∷◌, map, length, refl, sym, ap, ◌∙◌, true≢false}
 use Rattle.std.specs.Prelude.{int_div}
 use Rattle.std.specs.List.{list_all}
+use Rattle.std.proofs.lemmas.List.{length-map}
 use Rattle.blink_base.specs.declared.answer.Field.TheVariants as field
 use Rattle.blink_base.specs.Values.{number_in}
 use Rattle.blink_base.specs.Lines.{sum_of, sum_field, average_field, least_field, greatest_field}
@@ -22,10 +23,6 @@ use Rattle.star_select.specs.QueryPlan.{formula_of, measure_of}
 agree : {X Y Z V : Type 0} (f : Y → V) (g : X → Y) (h : Z → V) (k : X → Z) → ((x : X) → f (g x) ≡ h (k x)) → (xs : List X) → map f (map g xs) ≡ map h (map k xs)
 agree f g h k same [] = refl
 agree f g h k same (x ∷ xs) = λ i. same x i ∷ agree f g h k same xs i
-
-pub map-length : {X Y : Type 0} (f : X → Y) (xs : List X) → length (map f xs) ≡ length xs
-map-length f [] = refl
-map-length f (x ∷ xs) = ap (λ n. suc n) (map-length f xs)
 
 sum-over : (ns : List ℤ) → number_over (length ns) (sum_of ns) ≡ sum_field ns
 sum-over [] = refl
@@ -51,14 +48,14 @@ module _ {X : Type 0} (query : Query) (combination : X → Combination) (picked 
   pub measured : (i : BoundItem) → is_total i ≡ true → list_all named (item_refs i) ≡ true → (xs : List X)
       → measure_field (measure_of query i) (part_over (measure_of query i) (map picked xs)) ≡ bound_value i (map combination xs)
   measured (Column r) a h xs = absurd (true≢false (sym a))
-  measured Count a h xs = ap (λ n. field.Number (pos n)) (map-length picked xs ∙ sym (map-length combination xs))
+  measured Count a h xs = ap (λ n. field.Number (pos n)) (length-map xs picked ∙ sym (length-map xs combination))
   measured (Sum e) a h xs =
       let numbers : List ℤ = map (formula_number (formula_of query e)) (map picked xs) in
-      ap (λ n. number_over n (sum_of numbers)) (sym (map-length (formula_number (formula_of query e)) (map picked xs)))
+      ap (λ n. number_over n (sum_of numbers)) (sym (length-map (map picked xs) (formula_number (formula_of query e))))
       ∙ sum-over numbers ∙ ap sum_field (agree (formula_number (formula_of query e)) picked (bound_number e) combination (number-is e h) xs)
   measured (Average e) a h xs =
       let numbers : List ℤ = map (formula_number (formula_of query e)) (map picked xs) in
-      ap (λ n. number_over n (int_div (sum_of numbers) (pos n))) (sym (map-length (formula_number (formula_of query e)) (map picked xs)))
+      ap (λ n. number_over n (int_div (sum_of numbers) (pos n))) (sym (length-map (map picked xs) (formula_number (formula_of query e))))
       ∙ average-over numbers ∙ ap average_field (agree (formula_number (formula_of query e)) picked (bound_number e) combination (number-is e h) xs)
   measured (Least r) a h xs = ap least_field (agree (λ (v : Picked). v (pick_of query r)) picked (ref_value r) combination (value-is r (one-named r h)) xs)
   measured (Greatest r) a h xs = ap greatest_field (agree (λ (v : Picked). v (pick_of query r)) picked (ref_value r) combination (value-is r (one-named r h)) xs)

@@ -58,7 +58,7 @@ entry-keys : (key : ℕ) (wanted : List ℕ) (rows : List Row) → keys_of (map 
 entry-keys key wanted [] = refl
 entry-keys key wanted (row ∷ rows) = ap (λ l. value_in row key ∷ l) (entry-keys key wanted rows)
 
-module _ (scope : Scope) (s : Select) (fact : ℕ) (a : Accepted scope s fact) (tables : List (List Row)) (sized : length tables ≡ length scope) (held : list_all may_hold (zip scope tables) ≡ true) where
+module _ (scope : Scope) (s : Select) (fact : ℕ) (a : Accepted scope s fact) (tables : List (List Row)) (sized : length tables ≡ length scope) (allowed : list_all may_hold (zip scope tables) ≡ true) where
   abbrev query : Query
   query = query_in scope s fact
 
@@ -66,7 +66,7 @@ module _ (scope : Scope) (s : Select) (fact : ℕ) (a : Accepted scope s fact) (
   tie-once t (e, k, there, key, away) =
       let (x, both, here) = zip-place [] scope tables t.dimension sized (slice_get_within scope t.dimension e there) in
       let same : x ≡ e = some-same x e (sym here ∙ there) in
-      let holds = all-place may_hold (zip scope tables) t.dimension (x, slice_index_or tables t.dimension []) held both in
+      let holds = all-place may_hold (zip scope tables) t.dimension (x, slice_index_or tables t.dimension []) allowed both in
       let own = (and_parts (list_all (fits x.schema) (slice_index_or tables t.dimension [])) (has_own_keys x.schema.key (slice_index_or tables t.dimension [])) holds).1 in
       let distinct : are_distinct same_value (map (λ row. value_in row k) (slice_index_or tables t.dimension [])) ≡ true = sym (ap (λ (y : FromEntry). has_own_keys y.schema.key (slice_index_or tables t.dimension [])) same ∙ ap (λ o. has_own_keys o (slice_index_or tables t.dimension [])) key) ∙ own in
       let column : key_at scope t.dimension ≡ k = ap (λ (o : Option FromEntry). option_map_or (λ y. key_in y.schema.key) o 0) there ∙ ap key_in key in
@@ -84,4 +84,4 @@ pub keys_once : KeysOnce
 keys_once schemas s tables t =
     let n = scope_accepted schemas s t.free in
     let a = accepted (scope_of schemas s) s n.1 in
-    subst (λ (q : Query). list_all are_keys (key_maps q (scope_of schemas s) tables) ≡ true) (sym (query-is schemas s a.0 a.1.is_fact)) (once (scope_of schemas s) s a.0 a.1 tables (t.sized ∙ sym n.0) t.held)
+    subst (λ (q : Query). list_all are_keys (key_maps q (scope_of schemas s) tables) ≡ true) (sym (query-is schemas s a.0 a.1.is_fact)) (once (scope_of schemas s) s a.0 a.1 tables (t.sized ∙ sym n.0) t.allowed)

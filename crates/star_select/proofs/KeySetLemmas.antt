@@ -36,7 +36,7 @@ use Rattle.star_bind.proofs.FactRowLemmas.{query-is, tied}
 use Rattle.star_select.proofs.NamedColumnLemmas.{is_among}
 use Rattle.star_select.proofs.ListLemmas.{some-same, none-some, each-both, each-place, zip-length, zip-place, zip-maps, found-passes, any-found, some-map, any-numbered, there-some, there-place, any-once}
 
-module _ (scope : Scope) (s : Select) (fact : ℕ) (a : Accepted scope s fact) (tables : List (List Row)) (sized : length tables ≡ length scope) (held : list_all may_hold (zip scope tables) ≡ true) where
+module _ (scope : Scope) (s : Select) (fact : ℕ) (a : Accepted scope s fact) (tables : List (List Row)) (sized : length tables ≡ length scope) (allowed : list_all may_hold (zip scope tables) ≡ true) where
   abbrev query : Query
   query = query_in scope s fact
 
@@ -47,7 +47,7 @@ module _ (scope : Scope) (s : Select) (fact : ℕ) (a : Accepted scope s fact) (
   own = is_wanted (query_in scope s fact)
 
   pub parts : Each (IsPart scope fact ties own) (numbered (zip scope tables))
-  parts = parts_from scope fact ties own (tied scope s fact a) 0 scope tables (λ j. ap (slice_get scope) (omega arith)) a.counted held
+  parts = parts_from scope fact ties own (tied scope s fact a) 0 scope tables (λ j. ap (slice_get scope) (omega arith)) a.counted allowed
 
   -- each part has the rows of its table
   abbrev IsThere : ℕ × (FromEntry × List Row) → Type 0
@@ -183,7 +183,7 @@ module _ (schemas : Schemas) (s : Select) (tables : List (List Row)) (t : MayBeA
       let n = scope_accepted schemas s t.free in
       let a = accepted (scope_of schemas s) s n.1 in
       subst (λ (q : Query). is_some (joined_row q (scope_of schemas s) tables row) ≡ is_selected q (key_maps q (scope_of schemas s) tables) row) (sym (query-is schemas s a.0 a.1.is_fact))
-      (selects (scope_of schemas s) s a.0 a.1 tables (t.sized ∙ sym n.0) t.held row keyed)
+      (selects (scope_of schemas s) s a.0 a.1 tables (t.sized ∙ sym n.0) t.allowed row keyed)
 
   picks-at : (row : Row) (rows : Combination) → joined_row (query_of schemas s) (scope_of schemas s) tables row ≡ Some rows
       → (r : ColumnRef) → list_any (same_ref r) (named_refs (query_of schemas s)) ≡ true → r.table < length tables
@@ -193,7 +193,7 @@ module _ (schemas : Schemas) (s : Select) (tables : List (List Row)) (t : MayBeA
       let a = accepted (scope_of schemas s) s n.1 in
       subst (λ (q : Query). joined_row q (scope_of schemas s) tables row ≡ Some rows → (r : ColumnRef) → list_any (same_ref r) (named_refs q) ≡ true → r.table < length tables
       → picked_beside (tied_columns q) (key_maps q (scope_of schemas s) tables) row (pick_of q r) ≡ ref_value r rows) (sym (query-is schemas s a.0 a.1.is_fact))
-      (picks (scope_of schemas s) s a.0 a.1 tables (t.sized ∙ sym n.0) t.held row rows)
+      (picks (scope_of schemas s) s a.0 a.1 tables (t.sized ∙ sym n.0) t.allowed row rows)
 
 pub selects_by_keys : EntriesOfKeys → SelectsByKeys
 selects_by_keys keyed schemas s tables t row = selects-at schemas s tables t keyed row

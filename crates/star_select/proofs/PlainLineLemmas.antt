@@ -2,6 +2,7 @@
 use Rattle.std.proofs.Common.{◌≡◌, ℕ, pos, ◌+◌, Bool, true, not, ◌&&◌, List, [], ◌∷◌, ◌++◌, map, length, slice_index_or, refl, sym, ap, ◌∙◌, subst, true≢false, append_assoc, length-append}
 use Rattle.std.specs.Prelude.{replicate}
 use Rattle.std.specs.List.{list_all, flat_map}
+use Rattle.std.proofs.lemmas.List.{length-map}
 use Rattle.blink_base.specs.declared.value.Value.{Value}
 use Rattle.blink_base.specs.declared.value.Value.TheVariants.{Int}
 use Rattle.blink_base.specs.Values.{Row, same_row}
@@ -29,7 +30,6 @@ use Rattle.late_decode.specs.Parts.{Picked, parts_over}
 use Rattle.star_select.specs.Picks.{item_refs, pick_of}
 use Rattle.star_select.specs.QueryPlan.{item_pick, keys_if, measures_if, slots_if}
 use Rattle.star_select.proofs.GroupLineLemmas.{map-map, map-alike, map-where, seam}
-use Rattle.star_select.proofs.ItemLemmas.{map-length}
 use Rattle.star_select.proofs.ListLemmas.{flat-of-map}
 
 -- rows that all give one line give it as often as they are
@@ -106,7 +106,7 @@ module _ {X : Type 0} (query : Query) (combination : X → Combination) (picked 
       map-flat (λ x. of_key (key x)) (with_key same_row key xs) keys
       ∙ flat-same (λ k. map (λ x. of_key (key x)) (with_key same_row key xs k)) (λ k. replicate (length (map picked (with_key same_row key xs k))) (of_key k))
       (λ k. replicated (λ x. same_row k (key x)) (λ x. of_key (key x)) (of_key k) (λ x e. ap of_key (sym (tells.one k (key x) e))) (with_key same_row key xs k) (all-passing (λ x. same_row k (key x)) xs)
-      ∙ ap (λ n. replicate n (of_key k)) (sym (map-length picked (with_key same_row key xs k)))) keys
+      ∙ ap (λ n. replicate n (of_key k)) (sym (length-map (with_key same_row key xs k) picked))) keys
       ∙ flat-same (λ k. replicate (length (map picked (with_key same_row key xs k))) (of_key k))
       (λ k. replicate (length (map picked (with_key same_row key xs k))) (group_line measures slots (k, parts_over measures (map picked (with_key same_row key xs k)))))
       (λ k. ap (replicate (length (map picked (with_key same_row key xs k)))) (sym (only-key k (parts_over measures (map picked (with_key same_row key xs k)))))) keys

@@ -31,13 +31,13 @@ use Rattle.code_join.specs.Keys.{Keyed}
 use Rattle.code_group.specs.Entries.{picked_beside}
 use Rattle.code_group.specs.Plans.{is_good_number, pick_there, sums_numbers}
 use Rattle.star_select.specs.CodeSelection.{conjunction_tests, key_tests, put_if, put_test, put_tests, fact_tests}
-use Rattle.star_select.specs.ImageAnswer.{rows_in, image_keys, HasImages, ImagesMayBeAsked}
+use Rattle.star_select.specs.ImageAnswer.{rows_in, image_keys, HasImages, ImagesMayBeAsked, TablesHaveImages}
 use Rattle.star_select.specs.KeySets.{key_maps, MayBeAsked, SelectsByKeys, PicksByPlace}
 use Rattle.star_select.specs.Picks.{same_ref, named_refs, wanted_columns, pick_of, tied_columns}
 use Rattle.star_select.specs.Preconditions.{PlansAreThere, SumsAreNumbers, IsDimension, TiesHaveDimensions, FactTestsApart}
 use Rattle.star_select.specs.QueryPlan.{plan_of}
 use Rattle.star_select.proofs.DimensionLemmas.{pick-there, row-fits, column-within}
-use Rattle.star_select.proofs.ImageAnswerLemmas.{entry-same, columns-as-many}
+use Rattle.star_select.proofs.ImageAnswerLemmas.{entry-same, columns-as-many, as-many}
 use Rattle.star_select.proofs.ListLemmas.{some-same, none-some, zip-place, all-place}
 use Rattle.star_select.proofs.NamedColumnLemmas.{is_named, all-named, ref-within, refs-there}
 use Rattle.star_select.proofs.PlanLemmas.{plan-picks, plan-sums}
@@ -61,7 +61,7 @@ pick-at schemas s tables asked entry =
     subst (λ (q : Query). slice_get scope q.fact ≡ Some entry → (r : ColumnRef) → is_named scope q r ≡ true → pick_there (length entry.schema.columns) (key_maps q scope tables) (pick_of q r) ≡ true) (sym (query-is schemas s a.0 a.1.is_fact))
     (λ at r h.
     let b = both (list_any (same_ref r) (named_refs (query_in scope s a.0))) (is_ref scope r) h in
-    pick-there scope s a.0 a.1 tables (asked.sized ∙ sym n.0) asked.held entry at r b.0 b.1)
+    pick-there scope s a.0 a.1 tables (asked.sized ∙ sym n.0) asked.allowed entry at r b.0 b.1)
 
 pub plans_are_there : QueriesHaveShape → ImagesMayBeAsked → PlansAreThere
 plans_are_there shaped asked schemas s images image has here =
@@ -84,7 +84,7 @@ fits-at schemas s tables asked row entry =
     let a = accepted scope s n.1 in
     subst (λ (q : Query). slice_get scope q.fact ≡ Some entry → fits entry.schema row ≡ true → (rows : Combination) → joined_row q scope tables row ≡ Some rows → (d : ℕ) → d < length scope
     → (e : FromEntry) × (slice_get scope d ≡ Some e) × (fits e.schema (slice_index_or rows d []) ≡ true)) (sym (query-is schemas s a.0 a.1.is_fact))
-    (λ at fit rows all d l. row-fits scope s a.0 a.1 tables (asked.sized ∙ sym n.0) asked.held row entry at fit rows all d l)
+    (λ at fit rows all d l. row-fits scope s a.0 a.1 tables (asked.sized ∙ sym n.0) asked.allowed row entry at fit rows all d l)
 
 pub sums_are_numbers : QueriesHaveShape → ImagesMayBeAsked → SelectsByKeys → PicksByPlace → SumsAreNumbers
 sums_are_numbers shaped asked by_keys by_place schemas s images image has here row fit selected =
@@ -137,6 +137,15 @@ image-at (e ∷ scope) (x ∷ images) same (suc k) entry here = image-at scope i
     others : List Schema → List Schema
     others [] = []
     others (schema ∷ schemas) = schemas
+
+pub tables_have_images : QueriesHaveShape → TablesHaveImages
+tables_have_images shaped schemas s images has =
+    let scope : Scope = scope_of schemas s in
+    let query : Query = query_of schemas s in
+    let shape = shaped schemas s has.formed has.free in
+    let (entry, pair, at) = zip-place [] scope query.filters query.fact shape.as_many shape.fact in
+    let found = image-at scope images has.same query.fact entry at in
+    ((as-many schemas s images shaped has).0 ∙ sym shape.tables, found.0, found.1)
 
 -- the wanted columns of a table are there
 wanted-there : (scope : Scope) (query : Query) (table : ℕ) (entry : FromEntry) → slice_get scope table ≡ Some entry → list_all (is_ref scope) (named_refs query) ≡ true

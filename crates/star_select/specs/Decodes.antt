@@ -29,12 +29,12 @@ key_places true = 0
 key_places false = 1
 
 -- the places at which items and groups name a column of a table, and one more for a dimension's key
-abbrev pub places_in : Query → ℕ → ℕ
-places_in query table = count_by (λ r. r.table == table) (named_refs query) + key_places (table == query.fact)
+abbrev pub named_places : Query → ℕ → ℕ
+named_places query table = count_by (λ r. r.table == table) (named_refs query) + key_places (table == query.fact)
 
 -- how many values a query may decode: per table, a value for each selected row and place
 abbrev pub most_decodes : Query → Scope → List (List Row) → ℕ
-most_decodes query scope tables = sum_by (λ p. length (selected_rows query scope tables p.0) * places_in query p.0) (numbered scope)
+most_decodes query scope tables = sum_by (λ p. length (selected_rows query scope tables p.0) * named_places query p.0) (numbered scope)
 
 -- how many values are decoded while the key maps are made: of each selected row of a dimension its key and the wanted columns
 abbrev pub key_decodes : Query → Scope → List (List Row) → ℕ

@@ -44,6 +44,12 @@ pub record HasImages (schemas : Schemas) (s : Select) (images : List TableImage)
 abbrev pub ImagesMayBeAsked : Type 0
 ImagesMayBeAsked = (schemas : Schemas) (s : Select) (images : List TableImage) → HasImages schemas s images → MayBeAsked schemas s (rows_in images)
 
+-- The law that each table of a query has its image, its fact too.
+abbrev pub TablesHaveImages : Type 0
+TablesHaveImages =
+    (schemas : Schemas) (s : Select) (images : List TableImage) → HasImages schemas s images
+    → (length images ≡ length (query_of schemas s).tables) × (image : TableImage) × (slice_get images (query_of schemas s).fact ≡ Some image)
+
 -- The law that what a query names of its fact's image is there.
 abbrev pub FactNamed : Type 0
 FactNamed =

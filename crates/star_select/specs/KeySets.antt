@@ -39,7 +39,7 @@ pub record MayBeAsked (schemas : Schemas) (s : Select) (tables : List (List Row)
   pub formed : is_select s ≡ true
   pub free : first_refusal schemas s ≡ None
   pub sized : length tables ≡ length s.tables
-  pub held : list_all may_hold (zip (scope_of schemas s) tables) ≡ true
+  pub allowed : list_all may_hold (zip (scope_of schemas s) tables) ≡ true
 
 -- The law that a row of the fact has its combination exactly where it is selected.
 abbrev pub SelectsByKeys : Type 0

@@ -3,7 +3,7 @@
 ghost use Rattle.star_select.specs.CodeSelection.{SelectsByCodes, SelectsByConjunctions, WantedByCodes};
 ghost use Rattle.star_select.specs.Decodes.{DecodesAddUp};
 ghost use Rattle.star_select.specs.GroupAnswer.{AnswersByGroups, QueriesAreGrouped};
-ghost use Rattle.star_select.specs.ImageAnswer.{AnswersByCodes, FactNamed, ImagesMayBeAsked, KeysByCodes};
+ghost use Rattle.star_select.specs.ImageAnswer.{AnswersByCodes, FactNamed, ImagesMayBeAsked, KeysByCodes, TablesHaveImages};
 ghost use Rattle.star_select.specs.KeySets.{KeysOnce, PicksByPlace, SelectsByKeys};
 ghost use Rattle.star_select.specs.Preconditions.{ConditionsAreThere, EmptySetsPassNone, FactTestsApart, GroupsCanFinish, PagesAreJoined, PlansAreThere, SetsMeet, SumsAreNumbers, TiesHaveDimensions};
 
@@ -72,6 +72,13 @@ pub fn selects_by_codes()
 /// The rows that valid images stand for are ones that their tables may hold. Source: this project's own.
 pub fn images_may_be_asked()
     ensures { ImagesMayBeAsked }
+{
+    queries_have_shape();
+}
+
+/// There is an image per table of a query, and one of its fact. Source: this project's own.
+pub fn tables_have_images()
+    ensures { TablesHaveImages }
 {
     queries_have_shape();
 }
