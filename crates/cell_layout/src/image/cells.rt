@@ -5,7 +5,7 @@ ghost use Rattle.cell_layout.specs.Blocks.{blocks, cell_banks, page_count};
 
 use crate::Image;
 use bank_pack::BankPlan;
-use blink_base::Schema;
+use blink_base::{Row, Schema};
 use order_codes::Dict;
 use word_pool::Ledger;
 
@@ -22,6 +22,13 @@ impl<M: Ledger> Image<M> {
         ensures { result ≡ length self.now.rest }
     {
         self.rest.len()
+    }
+
+    /// The rows that are in no cell. It takes no memory.
+    pub fn rest(&self) -> &[Row]
+        ensures { result.now ≡ self.now.rest }
+    {
+        self.rest.as_slice()
     }
 
     /// The columns, and the primary key.
