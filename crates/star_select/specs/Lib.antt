@@ -1,3 +1,4 @@
+pub mod CellTests
 pub mod CodeSelection
 pub mod Decodes
 pub mod Examples
@@ -6,4 +7,5 @@ pub mod ImageAnswer
 pub mod KeySets
 pub mod Picks
 pub mod Preconditions
+pub mod QueryImages
 pub mod QueryPlan

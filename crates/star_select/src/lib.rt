@@ -5,3 +5,6 @@
 
 pub mod examples;
 pub mod laws;
+mod query_answer;
+
+pub use query_answer::answer_query;
