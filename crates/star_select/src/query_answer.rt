@@ -1,5 +1,6 @@
 // The answer to a query over images.
-ghost use Rattle.std.specs.Prelude.{◌≡◌, ◌≤◌, ◌+◌, IfOk};
+ghost use Rattle.std.specs.Prelude.{◌≡◌, ◌≤◌, ◌+◌, IsTrue, IfOk};
+ghost use Rattle.report_text.specs.AnswerText.{are_good_lines};
 ghost use Rattle.star_bind.specs.BoundQuery.{Schemas, scope_of};
 ghost use Rattle.star_meaning.specs.Answer.{answer};
 ghost use Rattle.star_sql.specs.declared.ast.Select.{Select};
@@ -28,6 +29,8 @@ pub fn answer_query<M: Ledger>(
 ) -> Result<Answer, AllocError>
     requires { IsQueryOver images.now query.now }
     ensures answer { (schemas : Schemas) (s : Select) → IsQueryOf schemas s images.now query.now → IfOk result (λ given. given ≡ answer (scope_of schemas s) s (rows_in images.now)) }
+    // Each date in it is one of the calendar.
+    ensures dates { IfOk result (λ given. IsTrue (are_good_lines given.lines)) }
     ensures decodes { (schemas : Schemas) (s : Select) → IsQueryOf schemas s images.now query.now → decodes.new ≤ decodes.old + most_decodes query.now (scope_of schemas s) (rows_in images.now) }
 {
     Err(AllocError)
