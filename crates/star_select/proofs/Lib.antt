@@ -1,10 +1,13 @@
 pub mod CodeSelectionLemmas
 pub mod CodeSetLemmas
+pub mod CollectedLemmas
 pub mod CombinationOrderLemmas
 pub mod DecodeLemmas
 pub mod DimensionLemmas
+pub mod FactGroupLemmas
 pub mod FactTestLemmas
 pub mod FinishLemmas
+pub mod GoodDateLemmas
 pub mod GroupAnswerLemmas
 pub mod GroupLineLemmas
 pub mod GroupRuleLemmas
@@ -19,6 +22,10 @@ pub mod PageLemmas
 pub mod PlainLineLemmas
 pub mod PlanLemmas
 pub mod PreconditionLemmas
+pub mod QueryAnswerLemmas
 pub mod QueryLineLemmas
 pub mod SumLemmas
+pub mod WantedColumnLemmas
+pub mod WantedKeyLemmas
+pub mod WantedPartLemmas
 pub mod WantedRowLemmas

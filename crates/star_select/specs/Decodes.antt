@@ -5,6 +5,7 @@ use Rattle.blink_lists.specs.Lists.{numbered}
 use Rattle.star_sql.specs.declared.ast.Select.{Select}
 use Rattle.star_meaning.specs.Names.{Scope}
 use Rattle.star_bind.specs.declared.query.Query.{Query}
+use Rattle.star_bind.specs.declared.query.Tie.{Tie}
 use Rattle.star_bind.specs.BoundQuery.{Schemas, scope_of, query_of}
 use Rattle.cell_layout.specs.Image.{TableImage}
 use Rattle.code_join.specs.Keys.{Keyed}
@@ -36,9 +37,13 @@ named_places query table = count_by (λ r. r.table == table) (named_refs query) 
 abbrev pub most_decodes : Query → Scope → List (List Row) → ℕ
 most_decodes query scope tables = sum_by (λ p. length (selected_rows query scope tables p.0) * named_places query p.0) (numbered scope)
 
--- how many values are decoded while the key maps are made: of each selected row of a dimension its key and the wanted columns
+-- how many values are decoded while the keys of a tie are collected: of each selected row of its dimension its key and the wanted columns
+abbrev pub tie_decodes : Query → Scope → List (List Row) → Tie → ℕ
+tie_decodes query scope tables t = length (keyed_of query scope tables t) * (1 + length (wanted_columns query t.dimension))
+
+-- the same of all ties
 abbrev pub key_decodes : Query → Scope → List (List Row) → ℕ
-key_decodes query scope tables = sum_by (λ t. length (keyed_of query scope tables t) * (1 + length (wanted_columns query t.dimension))) query.ties
+key_decodes query scope tables = sum_by (tie_decodes query scope tables) query.ties
 
 -- how many while the rows of the fact are grouped: of each selected row of a cell the columns that are measured, and of each group those of its key
 abbrev pub group_decodes : TableImage → Query → List Keyed → ℕ

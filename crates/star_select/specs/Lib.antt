@@ -2,6 +2,9 @@ pub mod CellTests
 pub mod CodeSelection
 pub mod Decodes
 pub mod Examples
+pub mod FactRows
+pub mod FactView
+pub mod GoodDates
 pub mod GroupAnswer
 pub mod ImageAnswer
 pub mod KeySets
@@ -9,3 +12,6 @@ pub mod Picks
 pub mod Preconditions
 pub mod QueryImages
 pub mod QueryPlan
+pub mod TieImages
+pub mod WantedColumns
+pub mod WantedRows

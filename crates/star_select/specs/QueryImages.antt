@@ -25,7 +25,7 @@ use Rattle.star_select.specs.QueryPlan.{plan_of}
 -- the query that a well formed, accepted statement is, and valid images of its tables, none of too many rows
 pub record IsQueryOf (schemas : Schemas) (s : Select) (images : List TableImage) (query : Query) : Type 0 where
   pub bound : query ≡ query_of schemas s
-  pub images : HasImages schemas s images
+  pub over : HasImages schemas s images
   pub few : All (λ image. row_count image ≤ MOST_ROWS) images
 
 -- a query is that of such a statement

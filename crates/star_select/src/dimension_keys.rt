@@ -9,9 +9,12 @@ ghost use Rattle.star_bind.specs.Joins.{filters_at};
 ghost use Rattle.star_bind.specs.QueryShape.{is_condition_on};
 ghost use Rattle.star_select.specs.CodeSelection.{image_wanted};
 
+use crate::dimension_cells::collect_cells;
+use crate::dimension_rest::collect_all_rest;
 use cell_layout::Image;
 use code_join::KeyMap;
-use star_bind::Query;
+use code_join::laws::first_keys_are_keys;
+use star_bind::{Conjunction, Query};
 use std::alloc::{AllocError, Global};
 use word_pool::{Ledger, Steps};
 
@@ -35,5 +38,22 @@ pub(crate) fn dimension_keys<M: Ledger>(
     ensures keys { IfOk result (λ keys. keys ≡ collected (key_column image.now) wanted.now [] (image_wanted image.now query.now table)) }
     ensures decodes { decodes.new ≤ decodes.old + length (image_wanted image.now query.now table) * (1 + length wanted.now) }
 {
-    unreachable!()
+    first_keys_are_keys();
+    let conjunctions = conjunctions_of(query, table);
+    let key = match image.schema().key {
+        Some(key) => key,
+        None => unreachable!(),
+    };
+    let mut keys = KeyMap::new(alloc);
+    collect_cells(alloc, image, conjunctions, wanted, &mut keys, decodes)?;
+    collect_all_rest(alloc, image, conjunctions, key, wanted, &mut keys)?;
+    Ok(keys)
+}
+
+// The conjunctions of the table at a place.
+fn conjunctions_of(query: &Query, table: usize) -> &[Conjunction]
+    requires { table < length query.now.filters }
+    ensures { result.now ≡ filters_at query.now table }
+{
+    query.filters.as_slice()[table].as_slice()
 }

@@ -1,14 +1,22 @@
 //! What a bound query answers over its tables and over their images: by key sets, by groups, and by codes.
 //!
-//! There is no code here but empty functions whose contracts are laws.
+//! [`answer_query`] answers a bound query over the images of its tables; the laws that it rests on stand in [`laws`].
 #![tactic(auto)]
 
 mod cell_tests;
+pub mod date_laws;
+mod dimension_cells;
 mod dimension_keys;
+mod dimension_rest;
 pub mod examples;
+mod fact;
 mod fact_groups;
+mod fact_page;
+mod fact_tests;
 pub mod laws;
+mod picks;
 mod query_answer;
+mod query_finish;
 mod query_plan;
 mod row_tests;
 
