@@ -77,6 +77,7 @@ padded p (row ∷ page) more = by (p row) (padded p page more)
   where
     ones : ℕ
     ones = count_by (λ (c : Bool). c) (map p page ++ replicate more false)
+
     by : (b : Bool) → ones ≡ length (filter p page) → count_by (λ c. c) (b ∷ map p page ++ replicate more false) ≡ length (cond b (row ∷ filter p page) (filter p page))
     by true rest = let first = sum_by-cons (λ (c : Bool). cond {A = ℕ} c 1 0) true (map p page ++ replicate more false) in omega (arith, first, rest)
     by false rest = let first = sum_by-cons (λ (c : Bool). cond {A = ℕ} c 1 0) false (map p page ++ replicate more false) in omega (arith, first, rest)
@@ -375,7 +376,7 @@ module _ (fact : FactRows) where
       by true h = rw (e, h) refl
       by false h = rw (e, h) refl
 
--- ---- what a cell is asked, and what is told of it
+  -- ---- what a cell is asked, and what is told of it
 
   -- the places of a tie's keys in a cell, as the code reads them
   pub tie-places : (cell tie : ℕ) (ties : List ℕ) (dicts : List Classes) (classes : List ℕ) (key : Keyed) (dict : Classes) → NamesFact (length fact.image.columns) fact.query fact.keys

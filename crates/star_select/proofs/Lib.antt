@@ -1,3 +1,4 @@
+pub mod CellTestLemmas
 pub mod CodeSelectionLemmas
 pub mod CodeSetLemmas
 pub mod CollectedLemmas
@@ -22,9 +23,11 @@ pub mod PageLemmas
 pub mod PlainLineLemmas
 pub mod PlanLemmas
 pub mod PreconditionLemmas
+pub mod PutSetLemmas
 pub mod QueryAnswerLemmas
 pub mod QueryLineLemmas
 pub mod SumLemmas
+pub mod TestCodeLemmas
 pub mod WantedColumnLemmas
 pub mod WantedKeyLemmas
 pub mod WantedPartLemmas

@@ -1,5 +1,6 @@
 pub mod CellTests
 pub mod CodeSelection
+pub mod CodeSets
 pub mod Decodes
 pub mod Examples
 pub mod FactRows

@@ -45,9 +45,7 @@ impl<'a, M: Ledger> Fact<'a, M> {
             return Ok(());
         }
         let groups = self.cell_groups(alloc, cell, tests.as_slice(), decodes)?;
-        groups.spill(
-            alloc, self.image, cell, self.keys, self.plan, into, decodes,
-        )
+        groups.spill(alloc, self.image, cell, self.keys, self.plan, into, decodes)
     }
 
     // Adds the selected rows of all cells.
@@ -96,10 +94,7 @@ impl<'a, M: Ledger> Fact<'a, M> {
 fn measures_of(alloc: Global, plan: &GroupPlan) -> Result<List<Measure>, AllocError>
     ensures { IfOk result (λ measures. measures ≡ plan.now.measures) }
 {
-    Ok(List::from_vec(Vec::from_slice(
-        alloc,
-        plan.measures.as_slice(),
-    )?))
+    Ok(List::from_vec(Vec::from_slice(alloc, plan.measures.as_slice())?))
 }
 
 // The groups of the selected rows of the fact: of the cells, page by page, and then of the rows that are in no cell.

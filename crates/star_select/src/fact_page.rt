@@ -46,16 +46,7 @@ impl<'a, M: Ledger> Fact<'a, M> {
             return Ok(());
         }
         group_page(
-            alloc,
-            self.image,
-            cell,
-            page,
-            &bits,
-            maps,
-            self.keys,
-            self.plan,
-            into,
-            decodes,
+            alloc, self.image, cell, page, &bits, maps, self.keys, self.plan, into, decodes,
         )
     }
 

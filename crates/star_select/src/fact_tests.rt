@@ -57,12 +57,7 @@ impl<'a, M: Ledger> Fact<'a, M> {
         let mut maps = Vec::with_capacity(alloc, ties.len())?;
         for tie in 0..ties.len() {
             let column = ties[tie] as usize;
-            maps.push(payload(
-                alloc,
-                &dicts[column],
-                classes[column],
-                &self.keys[tie],
-            )?)?;
+            maps.push(payload(alloc, &dicts[column], classes[column], &self.keys[tie])?)?;
         }
         Ok(maps)
     }

@@ -4,6 +4,7 @@
 #![tactic(auto)]
 
 mod cell_tests;
+mod code_tests;
 pub mod date_laws;
 mod dimension_cells;
 mod dimension_keys;
@@ -19,5 +20,6 @@ mod query_answer;
 mod query_finish;
 mod query_plan;
 mod row_tests;
+mod tied_codes;
 
 pub use query_answer::answer_query;
