@@ -1,4 +1,5 @@
 pub mod InsertedRowsLemmas
+pub mod QueryLemmas
 pub mod RefusalLemmas
 pub mod SchemaLemmas
 pub mod SoundnessLemmas

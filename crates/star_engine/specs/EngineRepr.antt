@@ -1,7 +1,9 @@
 -- The engine, and the tables that it stands for. Source: this project's own.
-use Rattle.std.specs.Prelude.{◌≡◌, ℕ, List, map, find, Some, None, Result, Ok, MatchResult}
+use Rattle.std.specs.Prelude.{◌≡◌, ℕ, List, map, find, Option, Some, None, option_map, Result, Ok, MatchResult}
 use Rattle.std.specs.Str.{bytes_eq}
 use Rattle.blink_base.specs.declared.refusal.Refusal.{Refusal}
+use Rattle.cell_layout.specs.Image.{TableImage}
+use Rattle.star_bind.specs.BoundQuery.{Schemas}
 use Rattle.star_engine.specs.declared.engine.Engine.{Engine}
 use Rattle.star_engine.specs.declared.table.Table.{Table}
 use Rattle.star_engine.specs.declared.fault.EngineError.{EngineError}
@@ -46,3 +48,11 @@ IsAddition result told engine = MatchResult result (λ count. IsMadeWith told co
 -- the table that a name has, if there is one, has no primary key
 abbrev pub IsKeyless : {M : Type 0} → Engine M → List ℕ → Type 0
 IsKeyless {M} engine name = (table : Table M) → find (λ t. bytes_eq name t.name) engine.tables ≡ Some table → table.image.schema.key ≡ None
+
+-- the image of the table that a name has
+abbrev pub image_named : {M : Type 0} → Engine M → List ℕ → Option TableImage
+image_named {M} engine name = option_map (λ (t : Table M). t.image) (find (λ (t : Table M). bytes_eq name t.name) engine.tables)
+
+-- the schemas that an engine finds, by name
+abbrev pub schemas_of : {M : Type 0} → Engine M → Schemas
+schemas_of engine name = option_map (λ image. image.schema) (image_named engine name)

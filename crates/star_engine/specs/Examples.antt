@@ -1,13 +1,20 @@
 -- Worked steps, as facts that compute. Source: this project's own.
-use Rattle.std.specs.Prelude.{◌≡◌, [], ◌∷◌, true, codes, None, Ok, Err, refl}
+use Rattle.std.specs.Prelude.{◌≡◌, pos, [], ◌∷◌, true, codes, None, Ok, Err, refl}
 use Rattle.std.specs.Fmt.{digits}
+use Rattle.blink_base.specs.declared.answer.Field.TheVariants.{Number}
 use Rattle.blink_base.specs.declared.limits.Limits.{Limits}
 use Rattle.blink_base.specs.declared.refusal.Refusal.TheVariants as refusal
 use Rattle.blink_base.specs.declared.value.Kind.TheVariants as kind
+use Rattle.blink_base.specs.declared.value.Value.TheVariants.{Int}
+use Rattle.star_sql.specs.declared.ast.Select.{Select}
 use Rattle.star_sql.specs.declared.ast.Statement.TheVariants as statement
+use Rattle.star_meaning.specs.Answer.{answer, lines}
+use Rattle.star_meaning.specs.Queries.{plain, query_of_t}
+use Rattle.star_bind.specs.BoundQuery.{first_refusal}
 use Rattle.star_engine.specs.State.{State}
-use Rattle.star_engine.specs.Changes.{new_table}
-use Rattle.star_engine.specs.Step.{step, refuse}
+use Rattle.star_engine.specs.declared.growth.Growth.TheVariants.{Standing}
+use Rattle.star_engine.specs.Changes.{new_table, added_to}
+use Rattle.star_engine.specs.Step.{step, query, refuse}
 
 -- one table and no files
 abbrev pub one_table : State
@@ -28,6 +35,23 @@ StatementsStepped =
     × ((step few one_table (Ok (statement.Drop (codes "t")))).state.tables ≡ [])
     × ((step few one_table (Ok (statement.Drop (codes "t")))).printed ≡ codes "dropped t\n")
 
+-- SELECT a FROM t
+abbrev pub select_a : Select
+select_a = query_of_t (plain (codes "a") ∷ []) [] [] None
+
+-- one table with a row, and no files
+abbrev pub one_row : State
+one_row = record {
+  tables = added_to Standing (new_table (codes "t") (record { columns = record { name = codes "a"; kind = kind.Int } ∷ []; key = None })) ((Int (pos 7) ∷ []) ∷ []) ∷ [];
+  files = λ name. None;
+}
+
+-- a query prints its answer over the accepted rows, or is refused; both keep the tables and the files
+abbrev pub QueriesAnswered : Type 0
+QueriesAnswered =
+    (step few one_row (Ok (statement.Select select_a)) ≡ query one_row (Ok (record { names = codes "a" ∷ []; lines = (Number (pos 7) ∷ []) ∷ [] })))
+    × (step few one_table (Ok (statement.Select select_a)) ≡ refuse one_table (refusal.UnknownColumn (codes "a")))
+
 -- a table of one column without rows, as it is described
 abbrev pub TablesDescribed : Type 0
 TablesDescribed =
@@ -43,6 +67,10 @@ TextsRefused =
 pub statements_stepped_lem : StatementsStepped
 unfolding step
 statements_stepped_lem = (refl, refl, refl, refl, refl, refl, refl)
+
+pub queries_answered_lem : QueriesAnswered
+unfolding step first_refusal answer lines
+queries_answered_lem = (refl, refl)
 
 pub tables_described_lem : TablesDescribed
 unfolding step digits

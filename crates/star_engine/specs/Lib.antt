@@ -7,6 +7,7 @@ pub mod Examples
 pub mod Faults
 pub mod InsertedRows
 pub mod LoadedRows
+pub mod Queries
 pub mod Soundness
 pub mod State
 pub mod Step

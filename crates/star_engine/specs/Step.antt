@@ -1,5 +1,6 @@
 -- What a statement does: the state that it leaves and the bytes that it prints. Source: ISO/IEC 9075 (tables and rows); the statements on layout, the order of refusals and the texts are this project's own.
 use Rattle.std.specs.Prelude.{ℕ, Bool, true, false, List, length, nat_le, Option, Some, None, Result, Ok, Err}
+use Rattle.blink_base.specs.declared.answer.Answer.{Answer}
 use Rattle.blink_base.specs.declared.schema.Schema.{Schema}
 use Rattle.blink_base.specs.declared.limits.Limits.{Limits}
 use Rattle.blink_base.specs.declared.refusal.Refusal.{Refusal}
@@ -9,10 +10,12 @@ use Rattle.star_sql.specs.declared.ast.Statement.{Statement}
 use Rattle.star_sql.specs.declared.ast.Statement.TheVariants as statement
 use Rattle.star_sql.specs.PieceStatement.{Said}
 use Rattle.report_text.specs.declared.lines.LayoutLines.{LayoutLines}
+use Rattle.report_text.specs.AnswerText.{answer_bytes}
 use Rattle.report_text.specs.Texts.{Bytes, refusal_bytes, created_bytes, dropped_bytes, reorganized_bytes, added_bytes, layout_bytes}
 use Rattle.star_engine.specs.LoadedRows.{loaded}
 use Rattle.star_engine.specs.State.{Tables, State, has_table}
 use Rattle.star_engine.specs.Changes.{created, dropped, added, reorganized}
+use Rattle.star_engine.specs.Queries.{selected}
 use Rattle.star_engine.specs.TableLayout.{described}
 use Rattle.star_engine.specs.InsertedRows.{written}
 use Rattle.star_engine.specs.declared.growth.Growth.{Growth}
@@ -52,6 +55,11 @@ abbrev pub description : State → Result LayoutLines Refusal → Outcome
 description state (Ok lines) = done state (layout_bytes lines)
 description state (Err why) = refuse state why
 
+-- a statement that prints an answer, or its refusal
+abbrev pub query : State → Result Answer Refusal → Outcome
+query state (Ok answer) = done state (answer_bytes answer)
+query state (Err why) = refuse state why
+
 -- a file of at most so many bytes
 abbrev pub short_enough : Bool → Bytes → Result Bytes Refusal
 short_enough true bytes = Ok bytes
@@ -71,7 +79,7 @@ batch_of (Err why) schema = Err why
 abbrev pub add_file : Limits → Growth → State → List ℕ → List ℕ → Outcome
 add_file limits growth state name file = addition state (added limits growth state.tables name (batch_of (fetched LONGEST_CSV (state.files file))))
 
--- the outcome of a statement; queries and table files are not built
+-- the outcome of a statement; EXPLAIN and table files are not built
 abbrev pub statement_step : Limits → State → Statement → Outcome
 statement_step limits state (statement.Create name columns) = change state (created_bytes name) (created state.tables name columns)
 statement_step limits state (statement.Drop name) = change state (dropped_bytes name) (dropped state.tables name)
@@ -79,7 +87,7 @@ statement_step limits state (statement.Load name file) = add_file limits Anew st
 statement_step limits state (statement.Append name file) = add_file limits Standing state name file
 statement_step limits state (statement.Insert name rows) = addition state (added limits Standing state.tables name (λ schema. written schema rows))
 statement_step limits state (statement.Reorganize name) = change state (reorganized_bytes name) (reorganized state.tables name)
-statement_step limits state (statement.Select s) = refuse state refusal.NotBuilt
+statement_step limits state (statement.Select s) = query state (selected state.tables s)
 statement_step limits state (statement.Describe name) = description state (described state.tables name)
 statement_step limits state (statement.Explain s) = refuse state refusal.NotBuilt
 statement_step limits state (statement.Export name file) = refuse state refusal.NotBuilt

@@ -11,7 +11,7 @@ ghost use Rattle.star_engine.specs.Causes.{IsAnswer, IsCause};
 ghost use Rattle.star_engine.specs.LoadedRows.{loaded, batch_in, IsGood};
 ghost use Rattle.star_engine.specs.State.{Tables, find_table};
 ghost use Rattle.star_engine.specs.Changes.{roomed, created, dropped, added, reorganized};
-ghost use Rattle.star_engine.specs.EngineRepr.{table_of, IsEngineOf, HasTables, IsChange, IsAddition, IsKeyless};
+ghost use Rattle.star_engine.specs.EngineRepr.{table_of, image_named, IsEngineOf, HasTables, IsChange, IsAddition, IsKeyless};
 ghost use Rattle.star_engine.specs.Soundness.{AreLimits};
 ghost use Rattle.star_engine.specs.InsertedRows.{written};
 
@@ -109,6 +109,16 @@ impl<M: Ledger> Engine<M> {
     {
         let at = place_of(self.tables.as_slice(), name)?;
         self.tables.get(at)
+    }
+
+    // The image of the first table of this name.
+    pub(crate) fn image(&self, name: &str) -> Option<&Image<M>>
+        ensures { option_copied result ≡ image_named self.now name.now }
+    {
+        match self.find(name) {
+            Some(table) => Some(&table.image),
+            None => None,
+        }
     }
 
     /// Whether a table of this name may be made.

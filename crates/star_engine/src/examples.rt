@@ -1,12 +1,18 @@
 //! Worked steps, as facts that compute.
 
-ghost use Rattle.star_engine.specs.Examples.{StatementsStepped, TablesDescribed, TextsRefused};
+ghost use Rattle.star_engine.specs.Examples.{StatementsStepped, QueriesAnswered, TablesDescribed, TextsRefused};
 ghost use Rattle.star_engine.specs.ChangeExamples.{CreatesTold, DropsTold, AddsTold, RowsWritten};
 
 /// A statement that isn't built, or that is refused, keeps the tables and the files; a dropped table is gone.
 #[tactic(auto, using(crate::specs::Examples::statements_stepped_lem))]
 pub fn statements_stepped()
     ensures { StatementsStepped }
+{}
+
+/// A query prints its answer over the accepted rows, or is refused.
+#[tactic(auto, using(crate::specs::Examples::queries_answered_lem))]
+pub fn queries_answered()
+    ensures { QueriesAnswered }
 {}
 
 /// A table that was made is described.

@@ -4,6 +4,7 @@ ghost use Rattle.std.specs.Prelude.{◌≡◌};
 use blink_base::Refusal;
 use blink_loader::LoadFault;
 use cell_layout::LayoutError;
+use star_bind::BindFault;
 use std::alloc::AllocError;
 use thiserror::Error;
 
@@ -55,6 +56,25 @@ impl From<LoadFault> for EngineError {
                 EngineError::Refused(Refusal::BadValue { at, field })
             }
             LoadFault::Memory => EngineError::Memory,
+        }
+    }
+}
+
+impl From<BindFault> for EngineError {
+    ghost use Rattle.star_engine.specs.Faults.{bind_error};
+
+    ghost from_gives = { λ why e. e ≡ bind_error why };
+
+    fn from(fault: BindFault) -> EngineError {
+        match fault {
+            BindFault::UnknownTable(name) => EngineError::Refused(Refusal::UnknownTable(name)),
+            BindFault::UnknownColumn(name) => EngineError::Refused(Refusal::UnknownColumn(name)),
+            BindFault::Ambiguous(name) => EngineError::Refused(Refusal::AmbiguousColumn(name)),
+            BindFault::WrongKind => EngineError::Refused(Refusal::WrongKind),
+            BindFault::NotStar => EngineError::Refused(Refusal::NotStar),
+            BindFault::NotGrouped => EngineError::Refused(Refusal::NotGrouped),
+            BindFault::Wide => EngineError::Refused(Refusal::TooManyConjunctions),
+            BindFault::Memory => EngineError::Memory,
         }
     }
 }
