@@ -1,10 +1,12 @@
 -- What is answered to a statement, by what the engine answers.
 use Rattle.std.proofs.Common.{◌≡◌, ◌∙◌, ℕ, Bool, true, false, List, is_some, option_map, Option, Some, None, Result, Ok, Err, OnErr, IsErrAnd, refl, sym, ap, subst}
+use Rattle.blink_base.specs.declared.answer.Answer.{Answer}
 use Rattle.blink_base.specs.declared.limits.Limits.{Limits}
 use Rattle.blink_base.specs.declared.refusal.Refusal.{Refusal}
 use Rattle.blink_base.specs.declared.refusal.Refusal.TheVariants as refusal
 use Rattle.blink_edge.specs.Files as store
 use Rattle.report_text.specs.declared.lines.LayoutLines.{LayoutLines}
+use Rattle.report_text.specs.AnswerText.{answer_bytes}
 use Rattle.report_text.specs.Texts.{Bytes, refusal_bytes, added_bytes, layout_bytes}
 use Rattle.star_sql.specs.declared.ast.Statement.{Statement}
 use Rattle.star_engine.specs.declared.engine.Engine.{Engine}
@@ -15,7 +17,7 @@ use Rattle.star_engine.specs.LoadedRows.{loaded}
 use Rattle.star_engine.specs.State.{AcceptedTable, State, Tables, find_table, has_table}
 use Rattle.star_engine.specs.Changes.{added, add_found}
 use Rattle.star_engine.specs.EngineRepr.{IsEngineOf, IsAddition, IsMade}
-use Rattle.star_engine.specs.Step.{statement_step, holding, refuse, change, addition, description, fetched, batch_of, add_file}
+use Rattle.star_engine.specs.Step.{statement_step, holding, refuse, change, addition, description, query, fetched, batch_of, add_file}
 use Rattle.blink_base.specs.declared.limits.TheConstants.{LONGEST_CSV}
 use Rattle.blink_run.specs.Ends.{AreFiles}
 use Rattle.blink_run.specs.Script.{Finds}
@@ -78,6 +80,17 @@ module _ {M : Type 0} where
       → statement_step limits state s ≡ description state told → IsRefusal why result → IsCause why told → IsEngineOf state.tables engine → IsReply limits state s result engine
   no_layout limits state s told why result engine steps line cause of =
       reply_refused limits state s why told result engine line cause (λ c e. steps ∙ ap (description state) e) of
+
+  -- an answer
+  pub reply_answer : (limits : Limits) (state : State) (s : Statement) (told : Result Answer Refusal) (answer : Answer) (result : Result Output Stop) (engine : Engine M)
+      → statement_step limits state s ≡ query state told → told ≡ Ok answer → IsLine (answer_bytes answer) false result → IsEngineOf state.tables engine → IsReply limits state s result engine
+  reply_answer limits state s told answer result engine steps is line of =
+      reply_line limits state s state.tables (answer_bytes answer) false result engine line (steps ∙ ap (query state) is) of
+
+  pub no_answer : (limits : Limits) (state : State) (s : Statement) (told : Result Answer Refusal) (why : EngineError) (result : Result Output Stop) (engine : Engine M)
+      → statement_step limits state s ≡ query state told → IsRefusal why result → IsCause why told → IsEngineOf state.tables engine → IsReply limits state s result engine
+  no_answer limits state s told why result engine steps line cause of =
+      reply_refused limits state s why told result engine line cause (λ c e. steps ∙ ap (query state) e) of
 
 -- a statement finds what was left
 pub finds_left : (stay : Bool) (state : State) → Finds stay state state

@@ -1,14 +1,19 @@
 -- Worked runs, as facts that compute. Source: this project's own.
 use Rattle.std.specs.Prelude.{◌≡◌, ℕ, pos, negsuc, [], ◌∷◌, ◌++◌, replicate, codes, true, false, None, Ok, Err, refl}
 use Rattle.std.specs.Fmt.{digits}
+use Rattle.csv.specs.Writing.{fields_text, escaped, is_blank}
 use Rattle.blink_loader.specs.Records.{next_record, records_from, strip_bom}
 use Rattle.blink_base.specs.declared.refusal.Refusal.TheVariants as refusal
 use Rattle.blink_base.specs.declared.value.Kind.TheVariants as kind
+use Rattle.star_sql.specs.declared.ast.ColumnName.{ColumnName}
 use Rattle.star_sql.specs.declared.ast.Literal.{Literal}
 use Rattle.star_sql.specs.declared.ast.Literal.TheVariants as literal
+use Rattle.star_sql.specs.declared.ast.Select.{Select}
 use Rattle.star_sql.specs.declared.ast.Statement.{Statement}
 use Rattle.star_sql.specs.declared.ast.Statement.TheVariants as statement
 use Rattle.star_sql.specs.declared.ast.What.TheVariants as what
+use Rattle.star_meaning.specs.Answer.{answer, lines}
+use Rattle.star_bind.specs.BoundQuery.{first_refusal}
 use Rattle.star_engine.specs.State.{Files}
 use Rattle.star_engine.specs.Step.{step}
 use Rattle.report_text.specs.Texts.{Bytes}
@@ -56,22 +61,37 @@ NothingSaid =
     Tells (to_run standard_limits) true no_files [] (record { printed = []; refused = false })
     × Tells (to_run standard_limits) true no_files (codes ";; -- ';\n") (record { printed = []; refused = false })
 
+-- the column a
+abbrev pub column_a : ColumnName
+column_a = record { table = None; column = codes "a" }
+
 -- SELECT a FROM t
-abbrev pub select_a : Statement
-select_a = statement.Select (record {
-  items = record { what = what.Column (record { table = None; column = codes "a" }); name = None } ∷ [];
+abbrev pub select_a : Select
+select_a = record {
+  items = record { what = what.Column column_a; name = None } ∷ [];
   tables = codes "t" ∷ [];
   condition = None;
   groups = [];
   order = [];
   limit = None;
-})
+}
+
+-- SELECT a, COUNT(*) FROM t GROUP BY a
+abbrev pub count_a : Select
+count_a = record {
+  items = record { what = what.Column column_a; name = None } ∷ record { what = what.Count; name = None } ∷ [];
+  tables = codes "t" ∷ [];
+  condition = None;
+  groups = column_a ∷ [];
+  order = [];
+  limit = None;
+}
 
 -- each statement is refused on its line, in their order; the last piece needs no semicolon
 abbrev pub ScriptAnswered : Type 0
 ScriptAnswered =
-    Tells (to_run standard_limits) true no_files (codes "SELECT a FROM t; ; DROP TABLE t")
-    (record { printed = codes "refused: not built\nrefused: unknown table t\n"; refused = true })
+    Tells (to_run standard_limits) true no_files (codes "EXPLAIN SELECT a FROM t; SELECT a FROM t; ; DROP TABLE t")
+    (record { printed = codes "refused: not built\nrefused: unknown table t\nrefused: unknown table t\n"; refused = true })
 
 -- one column of whole numbers
 abbrev pub create_t : Statement
@@ -81,11 +101,11 @@ create_t = statement.Create (codes "t") (record { name = codes "a"; kind = kind.
 abbrev pub insert_three : Statement
 insert_three = statement.Insert (codes "t") ((number_of 3 ∷ []) ∷ (number_of 1 ∷ []) ∷ (number_of 3 ∷ []) ∷ [])
 
--- a table is made, filled and described; a file that isn't there changes nothing, and the table is dropped
+-- a table is made, filled, asked and described; a file that isn't there changes nothing, and the table is dropped
 abbrev pub TablesTold : Type 0
 TablesTold =
-    Tells (to_run standard_limits) true no_files (codes "CREATE TABLE t (a INT); INSERT INTO t VALUES (3),(1),(3); LOAD INTO t FROM 'f'; DESCRIBE t; DROP TABLE t;")
-    (record { printed = codes "created t\nadded 3\nrefused: no file\ntable t rows 3 blocks 0\ncolumn a int classes 0\nrest 3\ndropped t\n"; refused = true })
+    Tells (to_run standard_limits) true no_files (codes "CREATE TABLE t (a INT); INSERT INTO t VALUES (3),(1),(3); LOAD INTO t FROM 'f'; SELECT a, COUNT(*) FROM t GROUP BY a; DESCRIBE t; DROP TABLE t;")
+    (record { printed = codes "created t\nadded 3\nrefused: no file\na,count(*)\n1,1\n3,2\n2 rows\ntable t rows 3 blocks 0\ncolumn a int classes 0\nrest 3\ndropped t\n"; refused = true })
 
 -- 16 digits, 33 open parentheses, a statement, and an open text
 abbrev pub refused_script : Bytes
@@ -111,25 +131,27 @@ nothing_said_lem = (
 )
 
 pub script_answered_lem : ScriptAnswered
-unfolding step
+unfolding step first_refusal
 script_answered_lem = (
   _,
-  steps _ _ _ (Ok select_a) _ _ refl (record { formed = refl; spelled = refl }) refl
+  steps _ _ _ (Ok (statement.Explain select_a)) _ _ refl (record { formed = refl; spelled = refl }) refl
+      (steps _ _ _ (Ok (statement.Select select_a)) _ _ refl (record { formed = refl; spelled = refl }) refl
       (passes _ _ _ _ refl
-      (steps _ _ _ (Ok (statement.Drop (codes "t"))) _ _ refl (record { formed = refl; spelled = refl }) refl (ends _))),
+      (steps _ _ _ (Ok (statement.Drop (codes "t"))) _ _ refl (record { formed = refl; spelled = refl }) refl (ends _)))),
   refl,
 )
 
 pub tables_told_lem : TablesTold
-unfolding step digits
+unfolding step first_refusal answer lines digits fields_text escaped is_blank
 tables_told_lem = (
   _,
   steps _ _ _ (Ok create_t) _ _ refl (record { formed = refl; spelled = refl }) refl
       (steps _ _ _ (Ok insert_three) _ _ refl (record { formed = refl; spelled = refl }) refl
       (steps _ _ _ (Ok (statement.Load (codes "t") (codes "f"))) _ _ refl (record { formed = refl; spelled = refl }) refl
+      (steps _ _ _ (Ok (statement.Select count_a)) _ _ refl (record { formed = refl; spelled = refl }) refl
       (steps _ _ _ (Ok (statement.Describe (codes "t"))) _ _ refl (record { formed = refl; spelled = refl }) refl
       (steps _ _ _ (Ok (statement.Drop (codes "t"))) _ _ refl (record { formed = refl; spelled = refl }) refl
-      (passes _ _ _ _ refl (ends _)))))),
+      (passes _ _ _ _ refl (ends _))))))),
   refl,
 )
 

@@ -26,7 +26,7 @@ pub fn script_answered()
     ensures { ScriptAnswered }
 {}
 
-/// A table that is made, filled, described and dropped.
+/// A table that is made, filled, asked, described and dropped.
 #[tactic(auto, using(crate::specs::Examples::tables_told_lem))]
 pub fn tables_told()
     ensures { TablesTold }

@@ -9,10 +9,12 @@ ghost use Rattle.blink_run.specs.Ends.{AreFiles, IsAsked};
 ghost use Rattle.blink_run.specs.StatementOutput.{IsReplyFrom, IsStoreFault, StaysSound};
 
 mod files;
+mod queries;
 mod tables;
 
 use crate::output::{Output, Stop, refused};
 use crate::statements::files::add_file;
+use crate::statements::queries::select;
 use crate::statements::tables::{create, describe, drop_table, insert, reorganize};
 use blink_base::Refusal;
 use blink_edge::Store;
@@ -50,7 +52,7 @@ pub(crate) fn answer_statement<M: Ledger, S: Store>(
         Statement::Insert { name, rows } => insert(alloc, engine, name, rows, decodes),
         Statement::Reorganize { name } => reorganize(alloc, engine, name, decodes),
         Statement::Describe { name } => describe(alloc, engine, name),
-        Statement::Select(_) => refused(alloc, &Refusal::NotBuilt),
+        Statement::Select(query) => select(alloc, engine, query, decodes),
         Statement::Explain(_) => refused(alloc, &Refusal::NotBuilt),
         Statement::Export { .. } => refused(alloc, &Refusal::NotBuilt),
         Statement::Import { .. } => refused(alloc, &Refusal::NotBuilt),

@@ -28,11 +28,11 @@ returns-in-Describe-clause-store g c =
 
 pub returns-in-Select-clause-store : goal.returns-in-Select-clause-store
 returns-in-Select-clause-store g c =
-    not_asked g.S.Store.files g.S.Store.faults g.S.Store.never_fails (IsStoreFault c.refused.result) c.args.store.now (no_line_fault (refusal_bytes refusal.NotBuilt) true c.refused.result c.refused.ensures)
+    not_asked g.S.Store.files g.S.Store.faults g.S.Store.never_fails (IsStoreFault c.select.result) c.args.store.now (no_store_fault _ _ _ c.select.result c.args.engine.now (c.select.ensures (without_files c.requires.sound.0) c.requires.sound.1))
 
 pub returns-in-Explain-clause-store : goal.returns-in-Explain-clause-store
 returns-in-Explain-clause-store g c =
-    not_asked g.S.Store.files g.S.Store.faults g.S.Store.never_fails (IsStoreFault c.refused-in-Explain.result) c.args.store.now (no_line_fault (refusal_bytes refusal.NotBuilt) true c.refused-in-Explain.result c.refused-in-Explain.ensures)
+    not_asked g.S.Store.files g.S.Store.faults g.S.Store.never_fails (IsStoreFault c.refused.result) c.args.store.now (no_line_fault (refusal_bytes refusal.NotBuilt) true c.refused.result c.refused.ensures)
 
 pub returns-in-Export-clause-store : goal.returns-in-Export-clause-store
 returns-in-Export-clause-store g c =
@@ -45,14 +45,13 @@ returns-in-Import-clause-store g c =
 pub returns-in-Select-clause-reply : goal.returns-in-Select-clause-reply
 returns-in-Select-clause-reply g c state of are =
     let told_files = g.S.Store.files c.args.store.now in
-    rw c.in-Select.is (reply_from c.args.engine.now.limits told_files (is_some told_files) state _ c.refused.result c.args.engine.now
-    (reply_line c.args.engine.now.limits state _ state.tables (refusal_bytes refusal.NotBuilt) true c.refused.result c.args.engine.now c.refused.ensures refl of) are)
+    rw c.in-Select.is (reply_from c.args.engine.now.limits told_files (is_some told_files) state _ c.select.result c.args.engine.now (c.select.ensures state of) are)
 
 pub returns-in-Explain-clause-reply : goal.returns-in-Explain-clause-reply
 returns-in-Explain-clause-reply g c state of are =
     let told_files = g.S.Store.files c.args.store.now in
-    rw c.in-Explain.is (reply_from c.args.engine.now.limits told_files (is_some told_files) state _ c.refused-in-Explain.result c.args.engine.now
-    (reply_line c.args.engine.now.limits state _ state.tables (refusal_bytes refusal.NotBuilt) true c.refused-in-Explain.result c.args.engine.now c.refused-in-Explain.ensures refl of) are)
+    rw c.in-Explain.is (reply_from c.args.engine.now.limits told_files (is_some told_files) state _ c.refused.result c.args.engine.now
+    (reply_line c.args.engine.now.limits state _ state.tables (refusal_bytes refusal.NotBuilt) true c.refused.result c.args.engine.now c.refused.ensures refl of) are)
 
 pub returns-in-Export-clause-reply : goal.returns-in-Export-clause-reply
 returns-in-Export-clause-reply g c state of are =
