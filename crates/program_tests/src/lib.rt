@@ -4,4 +4,10 @@
 #[cfg(test)]
 mod engine;
 #[cfg(test)]
+mod queries;
+#[cfg(test)]
+mod refused_queries;
+#[cfg(test)]
 mod run;
+#[cfg(test)]
+mod star_queries;

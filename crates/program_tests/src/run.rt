@@ -104,13 +104,13 @@ const SCRIPTS: [Row; 15] = [
         "run",
         "SELECT a FROM t;",
         Status::Refused,
-        "refused: not built\n",
+        "refused: unknown table t\n",
     ),
     (
         "run",
         "SELECT a FROM t WHERE ((((((((((((((((((((((((((((((((a = 1))))))))))))))))))))))))))))))));",
         Status::Refused,
-        "refused: not built\n",
+        "refused: unknown table t\n",
     ),
     (
         "run",
@@ -165,10 +165,10 @@ const SCRIPTS: [Row; 15] = [
 ];
 
 // The files of a script: names, and the lines of each with how often they stand.
-type Files = &'static [(&'static str, &'static [(&'static str, usize)])];
+pub(crate) type Files = &'static [(&'static str, &'static [(&'static str, usize)])];
 
 // The arguments, the script, its files, the status, and what is printed.
-type TableRow = (&'static str, &'static str, Files, Status, &'static str);
+pub(crate) type TableRow<'a> = (&'a str, &'a str, Files, Status, &'a str);
 
 // Two rows of 1.
 const ONES: (&str, &[(&str, usize)]) = ("l.csv", &[("a", 1), ("1", 2)]);
@@ -183,7 +183,7 @@ const NO_FILES: Files = &[];
 const LINES: Files = &[ONES, SEVEN];
 
 // Scripts that make, fill, describe and drop tables.
-const TABLES: [TableRow; 22] = [
+const TABLES: [TableRow<'static>; 22] = [
     (
         "run",
         "CREATE TABLE t (a INT); INSERT INTO t VALUES (3),(1),(3);",
@@ -431,15 +431,15 @@ fn shelf_of(
 // How the source and the sink are: the most bytes of a piece that is taken, the room, and the numbers of the calls that
 // fail; none where it is 0.
 #[derive(Clone, Copy)]
-struct Streams {
-    piece: usize,
-    source_fails: u64,
-    room: usize,
-    sink_fails: u64,
+pub(crate) struct Streams {
+    pub(crate) piece: usize,
+    pub(crate) source_fails: u64,
+    pub(crate) room: usize,
+    pub(crate) sink_fails: u64,
 }
 
 // Small pieces, much room, and no call that fails.
-const CALM: Streams = Streams {
+pub(crate) const CALM: Streams = Streams {
     piece: 3,
     source_fails: 0,
     room: 1_048_576,
@@ -463,7 +463,7 @@ fn run_end(
 }
 
 // Runs a row over its files, and asserts the status, what is printed, and that the files stand.
-fn expect_row(
+pub(crate) fn expect_row(
     rt: &impl Abort,
     alloc: Global,
     row: &TableRow,

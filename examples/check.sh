@@ -1,0 +1,6 @@
+#!/bin/sh
+# Runs each script of this folder that has a file of what it prints beside it, and compares the two.
+cd "$(dirname "$0")" || exit 1
+for wanted in *.out; do
+    ../blink run < "${wanted%.out}.sql" | cmp - "$wanted" || exit 1
+done
