@@ -177,9 +177,6 @@ module _ (columns : ℕ) (conjunctions : List Conjunction) (condition : is_condi
   each-is : list_all (is_conjunction columns) conjunctions ≡ true
   each-is = (both (nat_lt 0 (length conjunctions) && nat_le (length conjunctions) MOST_CONJUNCTIONS) (list_all (is_conjunction columns) conjunctions) condition).1
 
-  pub condition_named : list_all (is_of_columns columns) conjunctions ≡ true
-  condition_named = all-imply (is_conjunction columns) (is_of_columns columns) (λ c h. (both (is_of_columns columns c) _ h).0) conjunctions each-is
-
   pub condition_apart : are_apart [] [] conjunctions ≡ true
   condition_apart =
       all-imply (is_conjunction columns) (λ c. are_distinct (λ x y. x == y) (map (λ t. t.column) (conjunction_tests c)))

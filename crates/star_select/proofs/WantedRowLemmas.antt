@@ -38,7 +38,7 @@ conditions_are_there shaped schemas s images image table has here =
     ap (λ n. is_condition_on n (filters_at query table)) many ∙ all-place (λ p. is_condition_on (length p.0.schema.columns) p.1) (zip scope query.filters) table (e, filters_at query table) shape.filters pair
 
 -- the conjunctions of a condition are of columns that are there
-conjunctions-named : (columns : ℕ) (cs : List Conjunction) → is_condition_on columns cs ≡ true → list_all (is_of_columns columns) cs ≡ true
+pub conjunctions-named : (columns : ℕ) (cs : List Conjunction) → is_condition_on columns cs ≡ true → list_all (is_of_columns columns) cs ≡ true
 conjunctions-named columns cs h =
     let each = (both (nat_lt 0 (length cs) && nat_le (length cs) MOST_CONJUNCTIONS) (list_all (is_conjunction columns) cs) h).1 in
     all-imply (is_conjunction columns) (is_of_columns columns) (λ c k. (both (is_of_columns columns c) _ k).0) cs each

@@ -2,6 +2,7 @@
 
 ghost use Rattle.star_select.specs.CodeSelection.{SelectsByCodes, SelectsByConjunctions, WantedByCodes};
 ghost use Rattle.star_select.specs.Decodes.{DecodesAddUp};
+ghost use Rattle.star_select.specs.GoodDates.{AnswersHaveDates};
 ghost use Rattle.star_select.specs.GroupAnswer.{AnswersByGroups, QueriesAreGrouped};
 ghost use Rattle.star_select.specs.ImageAnswer.{AnswersByCodes, FactNamed, ImagesMayBeAsked, KeysByCodes, TablesHaveImages};
 ghost use Rattle.star_select.specs.KeySets.{KeysOnce, PicksByPlace, SelectsByKeys};
@@ -201,3 +202,8 @@ pub fn pages_are_joined()
     fact_named();
     sums_are_numbers();
 }
+
+/// Each date in the answer to a query over valid images is one of the calendar. Source: ISO/IEC 9075 (dates).
+pub fn answers_have_dates()
+    ensures { AnswersHaveDates }
+{}

@@ -5,7 +5,6 @@
 
 mod cell_tests;
 mod code_tests;
-pub mod date_laws;
 mod dimension_cells;
 mod dimension_keys;
 mod dimension_rest;

@@ -7,13 +7,14 @@ use Rattle.star_bind.specs.Joins.{filters_at}
 use Rattle.star_select.specs.CellTests.{are_apart}
 use Rattle.star_select.specs.CodeSelection.{is_of_columns}
 use Rattle.star_select.proofs.WantedKeyLemmas.{cells_absent, cells_few, cells_counted, with_rest, rest_absent, rest_few}
-use Rattle.star_select.proofs.WantedPartLemmas.{condition_apart, condition_named}
+use Rattle.star_select.proofs.WantedPartLemmas.{condition_apart}
+use Rattle.star_select.proofs.WantedRowLemmas.{conjunctions-named}
 use Rattle.star_select.proofs.dimension_keys.dimension_keys.Goals as goal
 
 pub collect_cells-requires-clause-columns : goal.collect_cells-requires-clause-columns
 collect_cells-requires-clause-columns g c =
     let columns = length c.args.image.now.columns in
-    subst (λ (cs : List Conjunction). IsTrue (list_all (is_of_columns columns) cs)) (sym c.conjunctions_of-conjunctions.ensures) (condition_named columns (filters_at c.args.query.now c.args.table) c.requires.condition)
+    subst (λ (cs : List Conjunction). IsTrue (list_all (is_of_columns columns) cs)) (sym c.conjunctions_of-conjunctions.ensures) (conjunctions-named columns (filters_at c.args.query.now c.args.table) c.requires.condition)
 
 pub collect_cells-requires-clause-apart : goal.collect_cells-requires-clause-apart
 collect_cells-requires-clause-apart g c =
@@ -35,7 +36,7 @@ returns-in_err-collect_cells-clause-decodes g c =
 pub collect_all_rest-requires-clause-columns : goal.collect_all_rest-requires-clause-columns
 collect_all_rest-requires-clause-columns g c =
     let columns = length c.args.image.now.columns in
-    subst (λ (cs : List Conjunction). IsTrue (list_all (is_of_columns columns) cs)) (sym c.conjunctions_of-conjunctions.ensures) (condition_named columns (filters_at c.args.query.now c.args.table) c.requires.condition)
+    subst (λ (cs : List Conjunction). IsTrue (list_all (is_of_columns columns) cs)) (sym c.conjunctions_of-conjunctions.ensures) (conjunctions-named columns (filters_at c.args.query.now c.args.table) c.requires.condition)
 
 pub collect_all_rest-requires-clause-absent : goal.collect_all_rest-requires-clause-absent
 collect_all_rest-requires-clause-absent g c =
