@@ -37,7 +37,9 @@ impl<M: Ledger> Engine<M> {
     /// 4,294,967,296 tokens.
     ///
     /// It is refused exactly where [`bind`] is, with the refusal of that fault. [`EngineError::Memory`] comes where there
-    /// isn't enough memory. Source: ISO/IEC 9075 (query expressions); the star form and the order of refusals are this
+    /// isn't enough memory. The counter rises by no more than the query may decode: nothing where it is refused, and else a
+    /// value for each selected row of a table and place at which the query names a column of it, and one more for a
+    /// dimension's key. Source: ISO/IEC 9075 (query expressions); the star form, the bound and the order of refusals are this
     /// project's own.
     pub fn select(
         &self,

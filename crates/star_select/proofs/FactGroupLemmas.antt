@@ -1,5 +1,5 @@
 -- The groups of a fact's selected rows: page by page within a cell, cell by cell, and behind them the rows that are in no cell.
-use Rattle.std.proofs.Common.{◌≡◌, ◌<◌, ◌≤◌, ◌+◌, ◌*◌, ◌-◌, ℕ, zero, suc, Bool, true, false, not, ◌&&◌, List, [], ◌∷◌, ◌++◌, map, filter, take, drop, replicate, length, nat_lt, count_by, slice_get, slice_index_or, Some, cond, refl, sym, ap, subst, ◌∙◌, true≢false, arith, length-append}
+use Rattle.std.proofs.Common.{◌≡◌, ◌<◌, ◌≤◌, ◌+◌, ◌*◌, ◌-◌, ℕ, zero, suc, Bool, true, false, not, ◌&&◌, List, [], ◌∷◌, ◌++◌, map, filter, take, drop, replicate, length, nat_lt, count_by, slice_index_or, cond, refl, sym, ap, subst, ◌∙◌, true≢false, arith, length-append}
 use Rattle.std.specs.Prelude.{sum_by, Option, Result, Ok, Err, OnOk, IfOk}
 use Rattle.std.specs.List.{list_all, list_any, flat_map, zip}
 use Rattle.std.proofs.Math.Seq.{take-add, take-suc}
@@ -17,7 +17,6 @@ use Rattle.blink_lists.specs.declared.limits.TheConstants.{PAGE_ROWS, MOST_ROWS}
 use Rattle.blink_lists.proofs.AllLemmas.{all_at}
 use Rattle.blink_lists.proofs.DistinctLemmas.{length-filter-le}
 use Rattle.blink_lists.proofs.GroupLemmas.{both, and_both}
-use Rattle.star_bind.specs.declared.query.Query.{Query}
 use Rattle.star_bind.specs.declared.query.Conjunction.{Conjunction}
 use Rattle.star_bind.specs.Joins.{is_wanted, filters_at}
 use Rattle.cell_layout.specs.Image.{TableImage, CellImage, cell_at, cell_rows, decoded_row, row_count}

@@ -1,5 +1,5 @@
 -- What the parts of a query's answer are asked follows of the query and its images.
-use Rattle.std.proofs.Common.{◌≡◌, ◌<◌, ◌≤◌, ◌+◌, ◌*◌, ℕ, Bool, true, ◌&&◌, suc, List, [], ◌∷◌, ◌++◌, map, take, length, slice_get, slice_index_or, Some, refl, sym, ap, subst, ◌∙◌, arith}
+use Rattle.std.proofs.Common.{◌≡◌, ◌<◌, ◌≤◌, ◌+◌, ◌*◌, ℕ, true, suc, List, [], ◌∷◌, ◌++◌, map, take, length, slice_get, slice_index_or, Some, sym, ap, subst, ◌∙◌, arith}
 use Rattle.std.specs.Prelude.{sum_by, Result, Ok, Err, IfOk}
 use Rattle.std.specs.List.{list_all}
 use Rattle.std.proofs.Math.ListN.{get_or-map}
@@ -17,8 +17,7 @@ use Rattle.star_meaning.specs.Names.{Scope}
 use Rattle.star_bind.specs.declared.query.Query.{Query}
 use Rattle.star_bind.specs.declared.query.Tie.{Tie}
 use Rattle.star_bind.specs.BoundQuery.{Schemas, scope_of, query_of}
-use Rattle.star_bind.specs.Joins.{filters_at}
-use Rattle.star_bind.specs.QueryShape.{QueriesHaveShape, is_condition_on}
+use Rattle.star_bind.specs.QueryShape.{QueriesHaveShape}
 use Rattle.cell_layout.specs.Image.{TableImage, row_count}
 use Rattle.cell_layout.specs.Valid.{is_valid}
 use Rattle.code_join.specs.Keys.{Keyed, are_keys}
@@ -34,9 +33,9 @@ use Rattle.star_select.specs.GoodDates.{AnswersHaveDates}
 use Rattle.star_select.specs.GroupAnswer.{answer_of_groups}
 use Rattle.report_text.specs.AnswerText.{are_good_lines}
 use Rattle.star_select.specs.ImageAnswer.{AnswersByCodes, ImagesMayBeAsked, FactNamed, KeysByCodes, TablesHaveImages, fact_groups, image_keys, rows_in}
-use Rattle.star_select.specs.KeySets.{KeysOnce, key_maps, keyed_of}
+use Rattle.star_select.specs.KeySets.{KeysOnce, keyed_of}
 use Rattle.star_select.specs.Picks.{wanted_columns}
-use Rattle.star_select.specs.Preconditions.{CanFinish, ConditionsAreThere, FactTestsApart, GroupsCanFinish, IsDimension, PagesAreJoined, PlansAreThere, SumsAreNumbers, TiesHaveDimensions}
+use Rattle.star_select.specs.Preconditions.{CanFinish, ConditionsAreThere, FactTestsApart, GroupsCanFinish, PagesAreJoined, PlansAreThere, SumsAreNumbers, TiesHaveDimensions}
 use Rattle.star_select.specs.QueryImages.{IsFact, IsQueryOf}
 use Rattle.star_select.specs.QueryPlan.{finish_of, plan_of}
 use Rattle.star_select.specs.TieImages.{IsTieImage}

@@ -1,5 +1,5 @@
 -- The tests of codes that a cell is asked for a condition, a list of them per conjunction. Source: after Raman et al., ICDE 2008 (predicates and star joins on codes).
-use Rattle.std.specs.Prelude.{◌≡◌, ◌==◌, ℕ, Bool, true, ◌&&◌, List, map}
+use Rattle.std.specs.Prelude.{◌==◌, ℕ, Bool, ◌&&◌, List, map}
 use Rattle.std.specs.List.{list_all, list_any, zip}
 use Rattle.blink_lists.specs.Lists.{are_distinct}
 use Rattle.star_bind.specs.declared.query.Conjunction.{Conjunction}

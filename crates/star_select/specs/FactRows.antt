@@ -1,5 +1,5 @@
 -- The fact of a query beside its key maps, its rows while they are selected, and their groups. Source: after Raman et al., ICDE 2008 (star joins and aggregation on codes).
-use Rattle.std.specs.Prelude.{◌≡◌, ◌≤◌, ◌+◌, ◌*◌, ℕ, Bool, true, List, map, filter, length, take, sum_by, [], ◌∷◌, slice_index_or}
+use Rattle.std.specs.Prelude.{◌≡◌, ◌≤◌, ◌+◌, ◌*◌, ℕ, Bool, true, List, filter, length, take, sum_by, [], ◌∷◌, slice_index_or}
 use Rattle.std.specs.List.{list_all}
 use Rattle.blink_base.specs.Values.{Row}
 use Rattle.blink_lists.specs.declared.limits.TheConstants.{MOST_ROWS, PAGE_ROWS}

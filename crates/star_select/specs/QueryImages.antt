@@ -1,9 +1,8 @@
 -- A query over the images of its tables, and what its fact's image is asked. Source: this project's own.
-use Rattle.std.specs.Prelude.{◌≡◌, ◌<◌, ◌≤◌, ◌==◌, ℕ, true, List, map, length}
-use Rattle.std.specs.List.{All, list_all}
+use Rattle.std.specs.Prelude.{◌≡◌, ◌<◌, ◌≤◌, ℕ, true, List, length}
+use Rattle.std.specs.List.{All}
 use Rattle.blink_base.specs.RowFits.{fits}
 use Rattle.blink_base.specs.Values.{Row}
-use Rattle.blink_lists.specs.Lists.{are_distinct}
 use Rattle.blink_lists.specs.declared.limits.TheConstants.{MOST_ROWS}
 use Rattle.star_sql.specs.declared.ast.Select.{Select}
 use Rattle.star_bind.specs.declared.query.Query.{Query}

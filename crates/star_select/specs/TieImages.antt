@@ -1,5 +1,5 @@
 -- The image of the dimension that a tie leads to. Source: this project's own.
-use Rattle.std.specs.Prelude.{◌≡◌, ◌<◌, ◌≤◌, ℕ, true, List, [], length, Some, IsSome, slice_get}
+use Rattle.std.specs.Prelude.{◌≡◌, ◌<◌, ◌≤◌, true, List, [], length, Some, IsSome, slice_get}
 use Rattle.std.specs.List.{All}
 use Rattle.blink_lists.specs.declared.limits.TheConstants.{MOST_ROWS}
 use Rattle.star_meaning.specs.Names.{Scope}

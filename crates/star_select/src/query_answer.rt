@@ -13,9 +13,9 @@ ghost use Rattle.star_select.specs.QueryImages.{IsQueryOf, IsQueryOver};
 use crate::dimension_keys::dimension_keys;
 use crate::fact_groups::fact_groups;
 use crate::laws::{
-    answers_by_codes, answers_have_dates, conditions_are_there, decodes_add_up, fact_named, fact_tests_apart,
-    groups_can_finish, images_may_be_asked, keys_by_codes, keys_once, pages_are_joined,
-    plans_are_there, sums_are_numbers, tables_have_images, ties_have_dimensions,
+    answers_by_codes, answers_have_dates, conditions_are_there, decodes_add_up, fact_named,
+    fact_tests_apart, groups_can_finish, images_may_be_asked, keys_by_codes, keys_once,
+    pages_are_joined, plans_are_there, sums_are_numbers, tables_have_images, ties_have_dimensions,
 };
 use crate::picks::wanted_columns;
 use crate::query_finish::finish_of;

@@ -1,4 +1,4 @@
-use Rattle.std.proofs.Common.{◌≡◌, ◌≤◌, ◌+◌, ◌*◌, ◌-◌, List, length, sym, subst}
+use Rattle.std.proofs.Common.{◌≡◌, ◌≤◌, ◌+◌, ◌*◌, List, length, sym, subst}
 use Rattle.std.specs.Prelude.{IsTrue, OnOk}
 use Rattle.blink_base.specs.Values.{Row}
 use Rattle.cell_layout.specs.Image.{cell_at}

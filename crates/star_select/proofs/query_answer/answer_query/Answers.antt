@@ -1,14 +1,12 @@
-use Rattle.std.proofs.Common.{◌≡◌, ◌≤◌, ◌+◌, ◌<◌, true, ℕ, List, Some, Bor, map, length, slice_get, sym, ap, subst, ◌∙◌, arith}
+use Rattle.std.proofs.Common.{◌≡◌, List, Some, Bor, map, slice_get, sym, ap, subst, ◌∙◌, arith}
 use Rattle.cell_layout.specs.Image.{TableImage}
 use Rattle.code_join.specs.Keys.{Keyed}
 use Rattle.code_group.specs.Plans.{are_of_plan}
 use Rattle.late_decode.specs.declared.plan.Finish.{Finish}
 use Rattle.late_decode.specs.declared.plan.GroupPlan.{GroupPlan}
 use Rattle.late_decode.specs.Bounds.{slots_within}
-use Rattle.report_text.specs.AnswerText.{are_good_lines}
-use Rattle.star_bind.specs.BoundQuery.{scope_of}
 use Rattle.star_select.specs.Decodes.{group_decodes}
-use Rattle.star_select.specs.ImageAnswer.{fact_groups, image_keys}
+use Rattle.star_select.specs.ImageAnswer.{fact_groups}
 use Rattle.star_select.specs.QueryImages.{IsFact}
 use Rattle.star_select.proofs.QueryAnswerLemmas.{fact-image, fact-valid, fact-there, read-as, read-within, answer-given, dates-given, decodes-within, can-finish}
 use Rattle.star_select.proofs.query_answer.answer_query.Goals as goal

@@ -1,9 +1,9 @@
-use Rattle.std.proofs.Common.{◌≡◌, ◌≤◌, ◌+◌, ◌*◌, [], ℕ, List, length, ap, sym, subst, ◌∙◌, arith}
+use Rattle.std.proofs.Common.{ℕ, List, length, ap, sym, ◌∙◌, arith}
 use Rattle.late_decode.specs.declared.plan.GroupPlan.{GroupPlan}
 use Rattle.late_decode.specs.Bounds.{combinations_in}
 use Rattle.star_select.specs.FactRows.{fact_plan, chosen_in}
 use Rattle.star_select.specs.FactView.{fact_of}
-use Rattle.star_select.proofs.FactGroupLemmas.{nothing-passed, no-cell-taken, cell-spilled, none-combined, both-decoded}
+use Rattle.star_select.proofs.FactGroupLemmas.{nothing-passed, no-cell-taken, cell-spilled, none-combined}
 use Rattle.star_select.proofs.fact.Fact.add_cell.Goals as goal
 
 pub returns-then-len-eq0-clause-taken : goal.returns-then-len-eq0-clause-taken

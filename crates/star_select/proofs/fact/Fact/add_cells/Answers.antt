@@ -1,8 +1,7 @@
-use Rattle.std.proofs.Common.{◌≡◌, ◌≤◌, ◌+◌, ◌*◌, length, ap, sym, subst, ◌∙◌, arith}
-use Rattle.code_group.specs.GroupRows.{cells_added}
-use Rattle.star_select.specs.FactRows.{HaveTaken, fact_plan, picks_of, cells_before, chosen_before}
+use Rattle.std.proofs.Common.{arith}
+use Rattle.star_select.specs.FactRows.{picks_of}
 use Rattle.star_select.specs.FactView.{fact_of}
-use Rattle.star_select.proofs.FactGroupLemmas.{room-for-cell, cell-taken, cell-decoded, cells-whole}
+use Rattle.star_select.proofs.FactGroupLemmas.{room-for-cell, cell-taken, cell-decoded}
 use Rattle.star_select.proofs.fact.Fact.add_cells.Goals as goal
 
 pub add_cell-requires-clause-room : goal.add_cell-requires-clause-room

@@ -1,6 +1,6 @@
-use Rattle.std.proofs.Common.{◌≡◌, length, ap, sym, ◌∙◌, arith}
+use Rattle.std.proofs.Common.{arith}
 use Rattle.star_select.specs.FactView.{fact_of}
-use Rattle.star_select.proofs.FactGroupLemmas.{room-for-row, row-taken, rest-whole}
+use Rattle.star_select.proofs.FactGroupLemmas.{row-taken}
 use Rattle.star_select.proofs.fact.Fact.add_rest.Goals as goal
 
 pub loop-at-preserved : goal.loop-at-preserved

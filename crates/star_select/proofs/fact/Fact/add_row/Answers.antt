@@ -1,10 +1,10 @@
-use Rattle.std.proofs.Common.{◌≡◌, true, false, [], ℕ, List, length, nat_lt, ap, sym, ◌∙◌, arith}
+use Rattle.std.proofs.Common.{true, length, nat_lt, ap, ◌∙◌}
 use Rattle.std.specs.List.{list_all}
 use Rattle.blink_base.specs.Values.{Row}
 use Rattle.code_group.specs.Plans.{plan_there}
 use Rattle.star_select.specs.CodeSelection.{is_of_columns}
 use Rattle.star_select.specs.FactView.{fact_of}
-use Rattle.star_select.proofs.FactGroupLemmas.{row-fits, row-read, row-asked, row-sums, row-unwanted, row-added, no-row-added}
+use Rattle.star_select.proofs.FactGroupLemmas.{row-fits, row-read, row-asked, row-sums, row-added}
 use Rattle.star_select.proofs.fact.Fact.add_row.Goals as goal
 
 pub is_wanted-requires : goal.is_wanted-requires

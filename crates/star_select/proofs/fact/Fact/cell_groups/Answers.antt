@@ -1,4 +1,4 @@
-use Rattle.std.proofs.Common.{◌≡◌, ◌≤◌, ◌+◌, ◌*◌, [], ◌++◌, length, ap, sym, subst, ◌∙◌, arith}
+use Rattle.std.proofs.Common.{[], sym, subst}
 use Rattle.code_group.specs.Plans.{fact_value_picks}
 use Rattle.star_select.specs.FactRows.{AreGrouped, fact_plan, rows_before}
 use Rattle.star_select.specs.FactView.{fact_of}

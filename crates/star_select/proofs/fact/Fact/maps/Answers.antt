@@ -1,5 +1,5 @@
 use Rattle.std.proofs.Common.{◌≡◌, ◌++◌, ◌∷◌, [], ℕ, List, length, slice_index_or, ap, sym, ◌∙◌, arith}
-use Rattle.std.proofs.lemmas.List.{length-map, take_all}
+use Rattle.std.proofs.lemmas.List.{take_all}
 use Rattle.cell_layout.specs.Image.{cell_at}
 use Rattle.cell_scan.specs.ValueTests.{cell_class}
 use Rattle.code_join.specs.KeyCodes.{places_in}
