@@ -2,6 +2,7 @@ pub mod AddedLemmas
 pub mod BoundLemmas
 pub mod CombinationLemmas
 pub mod EntryLemmas
+pub mod FirstLineLemmas
 pub mod GroupLemmas
 pub mod GroupLineLemmas
 pub mod LineStepLemmas

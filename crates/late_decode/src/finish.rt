@@ -6,6 +6,7 @@ ghost use Rattle.blink_lists.specs.Lists.{in_order};
 ghost use Rattle.late_decode.specs.Bounds.{counts_first, is_key_slot, slots_within};
 ghost use Rattle.late_decode.specs.GroupLines.{finished, keys_of};
 
+use crate::first_lines::{MOST_FIRST_LINES, first_lines};
 use crate::order::compare_lines;
 use crate::{Finish, Groups, LineOrder};
 use blink_base::{Answer, Field, List};
@@ -25,14 +26,38 @@ impl Groups {
         requires single { finish.now.single ≡ true → IsTrue (not (list_any is_key_slot finish.now.slots)) }
         ensures { IfOk result (λ answer. answer ≡ finished self.0 finish.now self.1) }
     {
-        let mut lines = self.lines(alloc, finish)?;
-        sort_lines(finish.order.as_slice(), &mut lines);
-        cut_lines(finish.limit, &mut lines);
+        let lines = self.lines(alloc, finish)?;
+        let lines = ordered(alloc, finish, lines)?;
         Ok(Answer {
             names: finish.names.copy(alloc)?,
             lines: List::from_vec(lines),
         })
     }
+}
+
+// Lines in their order, cut by the limit. Where few are asked for, the others aren't ordered.
+fn ordered(
+    alloc: Global,
+    finish: &Finish,
+    lines: Vec<List<Field>>,
+) -> Result<Vec<List<Field>>, AllocError>
+    ensures { IfOk result (λ ordered. ordered.items ≡ cut_at finish.now.limit (in_order (line_cmp (keys_of finish.now.order)) lines.items)) }
+{
+    let order = finish.order.as_slice();
+    match finish.limit {
+        Some(most) if most <= MOST_FIRST_LINES => first_lines(alloc, order, most as usize, lines),
+        limit => Ok(sorted(order, limit, lines)),
+    }
+}
+
+// All lines put in order, and cut by the limit.
+fn sorted(order: &[LineOrder], limit: Option<u64>, lines: Vec<List<Field>>) -> Vec<List<Field>>
+    ensures { result.items ≡ cut_at limit (in_order (line_cmp (keys_of order.now)) lines.items) }
+{
+    let mut all = lines;
+    sort_lines(order, &mut all);
+    cut_lines(limit, &mut all);
+    all
 }
 
 // Puts lines into their order.

@@ -3,6 +3,7 @@
 
 mod fields;
 mod finish;
+mod first_lines;
 mod groups;
 mod key;
 pub mod laws;

@@ -14,5 +14,5 @@ returns c =
     let o = orders_lines keys in
     let all = lines_of c.args.self.0 finish.slots finish.repeat (or_single finish.single c.args.self.0 c.args.self.1) in
     let order = in_order_rearranged (line_cmp keys) o.0 o.1 c.in_ok-lines.lines.items all c.in_ok-lines.ensures in
-    let lines = c.from_vec.ensures ∙ c.cut_lines.ensures ∙ ap (cut_at finish.limit) (c.sort_lines.ensures ∙ ap (λ l. in_order (line_cmp (keys_of l)) c.in_ok-lines.lines.items) c.as_slice.ensures ∙ order) in
+    let lines = c.from_vec.ensures ∙ c.in_ok-lines-2.ensures ∙ ap (cut_at finish.limit) order in
     λ i. record { names = c.in_ok-copy.ensures i; lines = lines i }
