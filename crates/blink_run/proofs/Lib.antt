@@ -1,4 +1,5 @@
 pub mod CountOutputLemmas
+pub mod DemoLemmas
 pub mod EndLemmas
 pub mod EngineStartLemmas
 pub mod FetchLemmas

@@ -5,12 +5,14 @@ use Rattle.std.specs.FinMap.{get}
 use Rattle.std.specs.Io.KnownBytes.{Appends, Consumes, IsAtEnd, Keeps}
 use Rattle.blink_edge.specs.Causes.{Rose}
 use Rattle.blink_edge.specs.Files as store
+use Rattle.blink_gen.specs.Demo.{demo_script}
 use Rattle.report_text.specs.Texts.{Bytes, usage_bytes}
 use Rattle.blink_base.specs.declared.limits.TheConstants.{LONGEST_INPUT}
 use Rattle.star_engine.specs.State.{Files}
 use Rattle.star_engine.specs.Step.{Outcome}
+use Rattle.blink_run.specs.Options.{standard_limits}
 use Rattle.blink_run.specs.Script.{ScriptBegins, ScriptAsks, ScriptNeverAsks, outputs_of}
-use Rattle.blink_run.specs.Program.{Asked, to_run, to_count, nothing_known, Told, Tells, count_told, status_of}
+use Rattle.blink_run.specs.Program.{Asked, to_run, to_count, to_demo, nothing_known, Told, Tells, count_told, demo_store, status_of}
 use Rattle.blink_run.specs.declared.top_call.status.Status.{Status}
 use Rattle.blink_run.specs.declared.top_call.status.Status.TheVariants as status
 
@@ -47,16 +49,18 @@ abbrev pub AreFiles : Option store.Files → Files → Type 0
 AreFiles None files = Unit {0}
 AreFiles (Some told_files) files = (name : Bytes) → files name ≡ get told_files name
 
--- these are the files that a store tells, where a script is asked for; nothing else asks the store
+-- these are the files that a store tells, where a script is asked for; nothing else asks the store, and a demonstration has files of its own
 abbrev pub AreKnown : Asked → Option store.Files → Files → Type 0
 AreKnown (to_run limits) told_files files = (is_some told_files ≡ true) × AreFiles told_files files
 AreKnown (to_count column low high) told_files files = AreFiles told_files files
+AreKnown (to_demo seed rows) told_files files = Unit {0}
 AreKnown nothing_known told_files files = AreFiles told_files files
 
--- the arguments ask for no script, so no statement asks the store
+-- the arguments ask for no script over the store, so no statement asks it
 abbrev pub AsksNothing : Asked → Type 0
 AsksNothing (to_run limits) = ⊥
 AsksNothing (to_count column low high) = Unit {0}
+AsksNothing (to_demo seed rows) = Unit {0}
 AsksNothing nothing_known = Unit {0}
 
 -- a store that may have been asked keeps the files that it tells; its count of faults rose where its fault is the answer, stays otherwise and where no call fails, and never falls
@@ -67,26 +71,36 @@ pub record IsAsked {S : Type 0} (files : S → Option store.Files) (faults : S �
   pub later : faults old ≤ faults new
   pub sure : never_fails old → never_fails new × (faults new ≡ faults old)
 
--- no statement asks the store; only a script has statements
+-- no statement asks the store; only a script has statements that may
 abbrev pub NeverAsked : Asked → Bool → Files → Bytes → Type 0
 NeverAsked (to_run limits) stay files input = ScriptNeverAsks limits stay files input
 NeverAsked (to_count column low high) stay files input = Unit {0}
+NeverAsked (to_demo seed rows) stay files input = Unit {0}
 NeverAsked nothing_known stay files input = Unit {0}
 
 -- the arguments are in a form that reads the input
 abbrev pub ReadsInput : Asked → Type 0
 ReadsInput (to_run limits) = Unit {0}
 ReadsInput (to_count column low high) = Unit {0}
+ReadsInput (to_demo seed rows) = ⊥
 ReadsInput nothing_known = ⊥
+
+-- the arguments ask for a demonstration or are in no form, so the input is left as it was
+abbrev pub LeavesInput : Asked → Type 0
+LeavesInput (to_run limits) = ⊥
+LeavesInput (to_count column low high) = ⊥
+LeavesInput (to_demo seed rows) = Unit {0}
+LeavesInput nothing_known = Unit {0}
 
 -- the source was read to its end
 abbrev pub IsReadWhole : StreamView → StreamView → Bytes → Type 0
 IsReadWhole old new input = Consumes old.bytes new.bytes input × IsAtEnd new.bytes × (length input ≤ LONGEST_INPUT)
 
--- this input was read: a script and a count read the source to its end, and arguments in no form leave it as it was
+-- this input was read: a script and a count read the source to its end, and a demonstration and arguments in no form leave it as it was
 abbrev pub IsRead : Asked → StreamView → StreamView → Bytes → Type 0
 IsRead (to_run limits) old new input = IsReadWhole old new input
 IsRead (to_count column low high) old new input = IsReadWhole old new input
+IsRead (to_demo seed rows) old new input = (input ≡ []) × (new ≡ old)
 IsRead nothing_known old new input = (input ≡ []) × (new ≡ old)
 
 -- at most so many bytes were taken
@@ -106,6 +120,8 @@ abbrev pub PartGiven : Asked → Bool → Files → Bytes → StreamView → Str
 PartGiven (to_run limits) stay files input old new = (outcomes : List Outcome) × (next : Outcome)
     × ScriptBegins limits stay files input (outcomes ++ next ∷ []) × GivesPart old new (concat (outputs_of outcomes)) next.printed
 PartGiven (to_count column low high) stay files input old new = GivesPart old new [] (count_told column low high input).printed
+PartGiven (to_demo seed rows) stay files input old new = (outcomes : List Outcome) × (next : Outcome)
+    × ScriptBegins standard_limits true (demo_store seed rows) demo_script (outcomes ++ next ∷ []) × GivesPart old new (concat (outputs_of outcomes)) next.printed
 PartGiven nothing_known stay files input old new = GivesPart old new [] usage_bytes
 
 -- the outputs of some first statements were given whole; a count gave nothing
@@ -113,13 +129,16 @@ abbrev pub FirstGiven : Asked → Bool → Files → Bytes → StreamView → St
 FirstGiven (to_run limits) stay files input old new = (outcomes : List Outcome)
     × ScriptBegins limits stay files input outcomes × Appends old.bytes new.bytes (concat (outputs_of outcomes))
 FirstGiven (to_count column low high) stay files input old new = Keeps old.bytes new.bytes
+FirstGiven (to_demo seed rows) stay files input old new = (outcomes : List Outcome)
+    × ScriptBegins standard_limits true (demo_store seed rows) demo_script outcomes × Appends old.bytes new.bytes (concat (outputs_of outcomes))
 FirstGiven nothing_known stay files input old new = ⊥
 
--- the outputs of some first statements were given whole, and the next statement asks the store; only a script has statements
+-- the outputs of some first statements were given whole, and the next statement asks the store; only a script has statements that may
 abbrev pub AskedGiven : Asked → Bool → Files → Bytes → StreamView → StreamView → Type 0
 AskedGiven (to_run limits) stay files input old new = (outcomes : List Outcome)
     × ScriptAsks limits stay files input outcomes × Appends old.bytes new.bytes (concat (outputs_of outcomes))
 AskedGiven (to_count column low high) stay files input old new = ⊥
+AskedGiven (to_demo seed rows) stay files input old new = ⊥
 AskedGiven nothing_known stay files input old new = ⊥
 
 -- what was given where the input was read, and the run then ended with a status
@@ -180,4 +199,5 @@ abbrev pub IsComplete : Asked → Outside → Outside → Status → Type 0
 IsComplete (to_run limits) old new answer =
     IsInputThere old.source new.source → ¬ (Rose old.sink.faults new.sink.faults) → ¬ (Rose old.store.faults new.store.faults) → IsAnswerOrMemory answer
 IsComplete (to_count column low high) old new answer = IsInputThere old.source new.source → ¬ (Rose old.sink.faults new.sink.faults) → IsAnswerOrMemory answer
+IsComplete (to_demo seed rows) old new answer = ¬ (Rose old.sink.faults new.sink.faults) → IsAnswerOrMemory answer
 IsComplete nothing_known old new answer = ¬ (Rose old.sink.faults new.sink.faults) → answer ≡ status.Usage

@@ -19,7 +19,7 @@ use Rattle.star_engine.specs.Step.{step}
 use Rattle.report_text.specs.Texts.{Bytes}
 use Rattle.blink_run.specs.Options.{standard_limits}
 use Rattle.blink_run.specs.Script.{ends, passes, steps}
-use Rattle.blink_run.specs.Program.{asked_by, to_run, to_count, nothing_known, count_told, Tells}
+use Rattle.blink_run.specs.Program.{asked_by, to_run, to_count, to_demo, nothing_known, count_told, Tells}
 
 -- the arguments of a count, and arguments in no stated form
 abbrev pub ArgumentsAsked : Type 0
@@ -37,7 +37,22 @@ ArgumentsAsked =
     × (asked_by (codes "run" ∷ codes "--rows" ∷ codes "8388609" ∷ []) ≡ nothing_known)
     × (asked_by (codes "run" ∷ codes "--rows" ∷ codes "0000000005" ∷ []) ≡ nothing_known)
     × (asked_by (codes "run" ∷ codes "--rows=5" ∷ []) ≡ nothing_known)
+
+-- the arguments of a demonstration, and seeds, rows and forms that it doesn't have
+abbrev pub DemosAsked : Type 0
+DemosAsked =
+    (asked_by (codes "demo" ∷ codes "1" ∷ codes "100000" ∷ []) ≡ to_demo 1 100000)
+    × (asked_by (codes "demo" ∷ codes "01" ∷ codes "0000000001" ∷ []) ≡ to_demo 1 1)
+    × (asked_by (codes "demo" ∷ codes "2147483647" ∷ codes "1000000" ∷ []) ≡ to_demo 2147483647 1000000)
+    × (asked_by (codes "demo" ∷ codes "0" ∷ codes "1" ∷ []) ≡ to_demo 0 1)
+    × (asked_by (codes "demo" ∷ codes "2147483648" ∷ codes "1" ∷ []) ≡ nothing_known)
     × (asked_by (codes "demo" ∷ codes "1" ∷ codes "0" ∷ []) ≡ nothing_known)
+    × (asked_by (codes "demo" ∷ codes "1" ∷ codes "1000001" ∷ []) ≡ nothing_known)
+    × (asked_by (codes "demo" ∷ codes "00000000001" ∷ codes "1" ∷ []) ≡ nothing_known)
+    × (asked_by (codes "demo" ∷ codes "-0" ∷ codes "1" ∷ []) ≡ nothing_known)
+    × (asked_by (codes "demo" ∷ codes "" ∷ codes "1" ∷ []) ≡ nothing_known)
+    × (asked_by (codes "demo" ∷ codes "1" ∷ []) ≡ nothing_known)
+    × (asked_by (codes "demo" ∷ codes "1" ∷ codes "2" ∷ codes "3" ∷ []) ≡ nothing_known)
 
 -- from the bytes in to the bytes out: a count, a column that isn't there, a field at fault and a short record
 abbrev pub BytesTold : Type 0
@@ -118,7 +133,10 @@ TextsRefused =
     (record { printed = codes "refused: number too long\nrefused: syntax\nrefused: too deep\nrefused: unknown table t\nrefused: syntax\n"; refused = true })
 
 pub arguments_asked_lem : ArgumentsAsked
-arguments_asked_lem = (refl, refl, refl, refl, refl, refl, refl, refl, refl, refl, refl, refl, refl, refl)
+arguments_asked_lem = (refl, refl, refl, refl, refl, refl, refl, refl, refl, refl, refl, refl, refl)
+
+pub demos_asked_lem : DemosAsked
+demos_asked_lem = (refl, refl, refl, refl, refl, refl, refl, refl, refl, refl, refl, refl)
 
 pub bytes_told_lem : BytesTold
 unfolding digits next_record records_from strip_bom

@@ -1,3 +1,4 @@
+pub mod DemoNumbers
 pub mod Ends
 pub mod Examples
 pub mod Options

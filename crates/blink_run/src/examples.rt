@@ -1,11 +1,17 @@
 //! Worked runs, as facts that compute.
 
-ghost use Rattle.blink_run.specs.Examples.{BytesTold, NothingSaid, ScriptAnswered, TablesTold, TextsRefused, ArgumentsAsked};
+ghost use Rattle.blink_run.specs.Examples.{BytesTold, DemosAsked, NothingSaid, ScriptAnswered, TablesTold, TextsRefused, ArgumentsAsked};
 
 /// The arguments.
 #[tactic(auto, using(crate::specs::Examples::arguments_asked_lem))]
 pub fn words_asked()
     ensures { ArgumentsAsked }
+{}
+
+/// The arguments of a demonstration.
+#[tactic(auto, using(crate::specs::Examples::demos_asked_lem))]
+pub fn demos_asked()
+    ensures { DemosAsked }
 {}
 
 /// What the program prints for an input, and its status.

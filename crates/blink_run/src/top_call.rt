@@ -4,16 +4,18 @@ ghost use Rattle.report_text.specs.Texts.{usage_bytes};
 ghost use Rattle.blink_base.specs.declared.limits.TheConstants.{LONGEST_INPUT};
 ghost use Rattle.star_engine.specs.State.{Files};
 ghost use Rattle.blink_run.specs.Program.{asked_by, nothing_known, Told, Tells};
-ghost use Rattle.blink_run.specs.Ends.{Ends, IsComplete, EndsAtFault, Gives, AreFiles, AreKnown, AsksNothing, IsAsked, NeverAsked, outside, stream_view, store_view};
+ghost use Rattle.blink_run.specs.Ends.{Ends, IsComplete, EndsAtFault, Gives, AreFiles, AreKnown, AsksNothing, IsAsked, LeavesInput, NeverAsked, outside, stream_view, store_view};
 ghost use Rattle.blink_run.specs.Request.{asked_of, IsAllowed};
 
 mod count;
+mod demo;
 mod status;
 
 use crate::arguments::Request;
 use crate::output::USAGE;
 use crate::script::answer_script;
 use crate::top_call::count::answer_count;
+use crate::top_call::demo::answer_demo;
 use blink_base::LONGEST_INPUT;
 use blink_edge::{Failed, ReadError, Sink, Source, Store, Taken, read_all, write_all};
 pub use status::Status;
@@ -65,6 +67,7 @@ fn answer<N: Ledger, W: Sink, S: Store>(
     match request {
         Request::Run(limits) => answer_script(alloc, limits, input, output, store, &mut decodes),
         Request::Count(bounds) => answer_count(alloc, bounds, input, output),
+        Request::Demo { seed, rows } => answer_demo(alloc, seed, rows, output, &mut decodes),
         Request::Unknown => answer_usage(output),
     }
 }
@@ -77,8 +80,10 @@ fn answer<N: Ledger, W: Sink, S: Store>(
 /// taken effect. The tables are kept for this run alone. The store is asked by LOAD and APPEND into a table that is there,
 /// for a file of at most 134,217,728 bytes, and by nothing else; a fault of it ends the run.
 /// `range COLUMN LOW HIGH`, where LOW and HIGH are whole numbers, reads the source to its end as one CSV
-/// text and prints how many of its records have LOW <= COLUMN <= HIGH, or the line of a refusal. Any other words print
-/// the usage line; they read nothing and take no memory.
+/// text and prints how many of its records have LOW <= COLUMN <= HIGH, or the line of a refusal.
+/// `demo SEED ROWS` prints what `run` prints for the script of a demonstration over its files, which lie in memory: SEED
+/// is from 0 to 2,147,483,647 and ROWS, the number of orders, from 1 to 1,000,000, each of one to ten digits. It reads
+/// nothing and asks no store. Any other words print the usage line; they read nothing and take no memory.
 ///
 /// How a run ends, what was read and what was printed is said for each status by `Ends`: a fault is answered only where
 /// that object's count of faults rose or stands at its last value, the first fault ends the run, and want of memory may
@@ -104,12 +109,12 @@ pub fn run<R: Source, W: Sink, S: Store>(
         (outside (stream_view R.left R.faults input.new) (stream_view W.given W.faults output.new) (store_view S.files S.faults store.new)) result }
 
     // The store keeps the files that it tells, and is as it was where no statement asks it and for words that ask for no
-    // script; for words in no stated form so is the source.
+    // script over it; for a demonstration and for words in no stated form so is the source.
     ensures store { IsAsked S.files S.faults S.never_fails (result ≡ Status.StoreFault) store.old store.new }
     ensures store_kept { AsksNothing (asked_by (map string_bytes words.now)) → store.new ≡ store.old }
     ensures unasked { (bytes : List ℕ) (files : Files) → R.left input.old ≡ Some bytes → AreFiles (S.files store.old) files
         → NeverAsked (asked_by (map string_bytes words.now)) (is_some (S.files store.old)) files bytes → store.new ≡ store.old }
-    ensures source_kept { asked_by (map string_bytes words.now) ≡ nothing_known → input.new ≡ input.old }
+    ensures source_kept { LeavesInput (asked_by (map string_bytes words.now)) → input.new ≡ input.old }
 
     // No count of faults falls, and none rises where no call fails and there is room for all that is told.
     ensures source_later { R.faults input.old ≤ R.faults input.new }
@@ -121,8 +126,8 @@ pub fn run<R: Source, W: Sink, S: Store>(
         → length told.printed ≤ W.sure_room output.old → W.faults output.new ≡ W.faults output.old }
 {
     let request = Request::of_args(words);
-    if let Request::Unknown = request {
-        return answer_usage(output);
+    if !request.reads_input() {
+        return answer::<Brand, W, S>(alloc, Blank::new(1), request, &[], output, store);
     }
     let mut bytes = Vec::new(alloc);
     match read_all(input, LONGEST_INPUT, &mut bytes) {

@@ -177,7 +177,7 @@ const ONES: (&str, &[(&str, usize)]) = ("l.csv", &[("a", 1), ("1", 2)]);
 const SEVEN: (&str, &[(&str, usize)]) = ("m.csv", &[("a", 1), ("7", 1)]);
 
 // No files.
-const NO_FILES: Files = &[];
+pub(crate) const NO_FILES: Files = &[];
 
 // Both files.
 const LINES: Files = &[ONES, SEVEN];
@@ -377,7 +377,7 @@ const TABLES: [TableRow<'static>; 22] = [
 ];
 
 // Arguments in no stated form.
-const UNKNOWN: [&str; 14] = [
+const UNKNOWN: [&str; 20] = [
     "run --rows 0",
     "run --rows 5 --rows 6",
     "run --rows=5",
@@ -392,6 +392,12 @@ const UNKNOWN: [&str; 14] = [
     "run 5",
     "run --rows 1 --blocks 1 --rows 1",
     "RUN",
+    "demo 1",
+    "demo 1 2 3",
+    "demo 2147483648 1",
+    "demo 1 1000001",
+    "demo -0 1",
+    "demo 00000000001 1",
 ];
 
 // The arguments that a text has, split at its spaces.
