@@ -1,0 +1,4 @@
+pub mod ChunkListLemmas
+pub mod NumberingLemmas
+pub mod PoolPartsLemmas
+pub mod RegionLemmas
