@@ -1,1 +1,12 @@
 pub mod ShapeLemmas
+pub mod FieldLemmas
+pub mod BlockLemmas
+pub mod CompareLemmas
+pub mod MarkLemmas
+pub mod TopLemmas
+pub mod FourLemmas
+pub mod RoundLemmas
+pub mod WordLemmas
+pub mod PlaceLemmas
+pub mod RowLemmas
+pub mod GuardLemmas

@@ -6,11 +6,12 @@ use Rattle.std.proofs.lemmas.Bool.{and_parts, leb-true}
 use Rattle.std.proofs.lemmas.List.Sums.{sum_by-cons}
 use Rattle.std.specs.List.{list_all}
 use Rattle.masked_compare.specs.Fields.{is_shape, is_width, field_bits, fields_bits, lane_bits}
+use Rattle.masked_compare.specs.Marks.{guards_of, tops_of}
 use Rattle.masked_compare.specs.ShapeRepr.{IsGood, widths_of}
 use Rattle.masked_compare.specs.declared.shape.Shape.TheInside.{Inside}
 
 -- a shape's fields have at most 32 bits
-fits_lane : (ws : List ℕ) → IsTrue (is_shape ws) → fields_bits ws ≤ 32
+pub fits_lane : (ws : List ℕ) → IsTrue (is_shape ws) → fields_bits ws ≤ 32
 fits_lane ws shape = leb-true (fields_bits ws) 32 (and_parts (nat_lt 0 (length ws) && list_all is_width ws) (nat_le (fields_bits ws) 32) shape).1
 
 -- each field has two bits at least
@@ -29,9 +30,9 @@ few_fields ws shape =
     let each = two_bits_each ws (and_parts (nat_lt 0 (length ws)) (list_all is_width ws) (and_parts (nat_lt 0 (length ws) && list_all is_width ws) (nat_le (fields_bits ws) 32) shape).0).1 in
     omega arith
 
-pub kept_good : (ws : List ℕ) (n : ℕ) → IsTrue (is_shape ws) → n ≡ lane_bits ws
-    → IsGood (record { widths = ws ++ drop (length ws) (replicate 16 0); count = length ws; bits = n })
-kept_good ws n shape bits =
+pub kept_good : (ws : List ℕ) (n g t : ℕ) → IsTrue (is_shape ws) → n ≡ lane_bits ws → g ≡ guards_of ws → t ≡ tops_of ws
+    → IsGood (record { widths = ws ++ drop (length ws) (replicate 16 0); count = length ws; bits = n; guards = g; tops = t })
+kept_good ws n g t shape bits guards tops =
     let few = few_fields ws shape in
     let behind = drop (length ws) (replicate 16 0) in
     let front : take (length ws) (ws ++ behind) ≡ ws = take-append_seam ws behind in
@@ -43,6 +44,8 @@ kept_good ws n shape bits =
       shape = rw front shape;
       rest = drop-append_seam ws behind ∙ zeros;
       bits = rw front bits;
+      guards = rw front guards;
+      tops = rw front tops;
     }
 
 -- a shape of sixteen fields takes no more

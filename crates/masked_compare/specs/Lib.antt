@@ -1,3 +1,6 @@
 pub mod Examples
 pub mod Fields
+pub mod Marks
+pub mod Rounds
 pub mod ShapeRepr
+pub mod Words

@@ -1,0 +1,7 @@
+use Rattle.std.proofs.Common.{◌≡◌, take}
+use Rattle.masked_compare.specs.Marks.{tops_where}
+use Rattle.masked_compare.specs.Rounds.{outside_rounds}
+use Rattle.masked_compare.proofs.shape.Shape.outside_every_round_in.Given as goal
+
+abbrev pub invariant-loop-round : goal.invariant-loop-round
+invariant-loop-round l = l.all ≡ tops_where l.self (outside_rounds l.self (take l.round-index l.rounds) l.word)
