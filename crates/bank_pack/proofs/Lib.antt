@@ -1,2 +1,10 @@
 pub mod BankLemmas
+pub mod BlockLemmas
+pub mod GrowthLemmas
+pub mod LawLemmas
+pub mod PackedLemmas
+pub mod PlaceLemmas
 pub mod PlanLemmas
+pub mod ReadLemmas
+pub mod ReleaseLemmas
+pub mod StandLemmas
