@@ -1,11 +1,12 @@
 -- The truth values of a page.
-use Rattle.std.proofs.Common.{◌≡◌, ℕ, zero, suc, ◌+◌, ◌-◌, ◌*◌, ◌/◌, ◌%◌, ◌<◌, ◌≤◌, Bool, true, false, List, [], ◌∷◌, map, replicate, length, get_or, set, refl, sym, ap, ◌∙◌, arith, inl, inr, length-append, Option, Some, None, IfSome, IfNone}
+use Rattle.std.proofs.Common.{◌≡◌, ℕ, zero, suc, ◌+◌, ◌-◌, ◌*◌, ◌/◌, ◌%◌, ◌<◌, ◌≤◌, ◌==◌, Bool, true, false, ◌||◌, bit_or, List, [], ◌∷◌, map, replicate, length, get_or, set, refl, sym, ap, ◌∙◌, arith, inl, inr, length-append, Option, Some, None, IfSome, IfNone}
 use Rattle.std.specs.List.{zip}
 use Rattle.std.proofs.lemmas.Bool.{cases_eq, cases_lt}
 use Rattle.std.proofs.lemmas.List.{ext_get_or, length-replicate, length-set, get_or-set_same, get_or-set_other, get_or-replicate, get_or_append_left, get_or-append_right, get_or_past}
-use Rattle.std.proofs.lemmas.Nat.Bits.{bit_at-zero}
+use Rattle.std.specs.Int.{bit_at}
+use Rattle.std.proofs.lemmas.Nat.Bits.{bit_at-zero, bit_at-lt, bit_at_or}
 use Rattle.row_bits.specs.Bits.{is_set, bits_of, first_true}
-use Rattle.row_bits.proofs.WordLemmas.{bits_at, length_bits, clear_behind}
+use Rattle.row_bits.proofs.WordLemmas.{bits_at, length_bits, clear_behind, set_at, same_word, other_word, max_some}
 
 -- truth values told place by place
 pub same_bits : (n : ℕ) (words : List ℕ) (bits : List Bool) → length bits ≡ n → ((k : ℕ) → k < n → is_set words k ≡ get_or bits k false) → bits_of n words ≡ bits
@@ -105,3 +106,49 @@ page_put old new bits place value view lt here others =
       | inl same ↦ ap (is_set new) same ∙ here ∙ sym (ap (λ j. get_or (set bits place value) j false) same ∙ get_or-set_same bits place value false (omega (arith, lt, long)))
       | inr ne ↦ others k ne ∙ sym (get_or-set_other bits place k value false ne ∙ ap (λ l. get_or l k false) (sym view) ∙ bits_at 1024 old k false in_page)
     ])
+
+-- ---- a place that is made true
+
+module _ (old new : List ℕ) (bits : List Bool) (place : ℕ) (view : bits_of 1024 old ≡ bits) where
+  or_true : (b : Bool) → (b || true) ≡ true
+  or_true true = refl
+  or_true false = refl
+
+  pub true_here : (value : Bool) → value ≡ true → place < 1024 → is_set new place ≡ true → get_or (bits_of 1024 new) place false ≡ (get_or bits place false || value)
+  true_here value is lt here = bits_at 1024 new place false lt ∙ here ∙ sym (ap (λ b. get_or bits place false || b) is ∙ or_true (get_or bits place false))
+
+  pub true_elsewhere : ((k : ℕ) → (k ≡ place → ⊥) → is_set new k ≡ is_set old k) → (k : ℕ) → (k ≡ place → ⊥) → get_or (bits_of 1024 new) k false ≡ get_or bits k false
+  true_elsewhere others k ne =
+      elim (cases_lt k 1024) [
+        | inl lt ↦ bits_at 1024 new k false lt ∙ others k ne ∙ sym (bits_at 1024 old k false lt) ∙ ap (λ l. get_or l k false) view
+        | inr past ↦ get_or_past (bits_of 1024 new) k false (omega (arith, past, length_bits 1024 new)) ∙ sym (get_or_past bits k false (omega (arith, past, length_bits 1024 old, ap length view)))
+      ]
+
+-- ---- a word that is added
+
+added_at : (old : List ℕ) (at truths bit : ℕ) → at < length old → bit < 64
+    → is_set (set old at (bit_or (get_or old at 0) truths)) (at * 64 + bit) ≡ (is_set old (at * 64 + bit) || bit_at truths bit == 1)
+added_at old at truths bit there lt =
+    let x = get_or old at 0 in
+    same_word old at (bit_or x truths) bit (at * 64 + bit) there refl lt
+    ∙ ap (λ n. n == 1) (bit_at_or x truths bit)
+    ∙ max_some (bit_at x bit) (bit_at truths bit) (bit_at-lt x bit) (bit_at-lt truths bit)
+    ∙ ap (λ b. b || bit_at truths bit == 1) (sym (set_at old at bit (at * 64 + bit) refl lt))
+
+module _ (old : List ℕ) (bits : List Bool) (at truths : ℕ) (view : bits_of 1024 old ≡ bits) (long : length old ≡ 16) (within : at < 16) where
+  abbrev new : List ℕ
+  new = set old at (bit_or (get_or old at 0) truths)
+
+  pub added_here : (bit : ℕ) → bit < 64 → get_or (bits_of 1024 new) (at * 64 + bit) false ≡ (get_or bits (at * 64 + bit) false || bit_at truths bit == 1)
+  added_here bit lt =
+      bits_at 1024 new (at * 64 + bit) false (omega arith)
+      ∙ added_at old at truths bit (omega (arith, long)) lt
+      ∙ ap (λ b. b || bit_at truths bit == 1) (sym (bits_at 1024 old (at * 64 + bit) false (omega arith)) ∙ ap (λ l. get_or l (at * 64 + bit) false) view)
+
+  pub added_elsewhere : (k : ℕ) → (k / 64 ≡ at → ⊥) → get_or (bits_of 1024 new) k false ≡ get_or bits k false
+  added_elsewhere k ne =
+      let same_long : length new ≡ 16 = length-set old at (bit_or (get_or old at 0) truths) ∙ long in
+      bits_anywhere 1024 new k (omega (arith, same_long))
+      ∙ other_word old at (bit_or (get_or old at 0) truths) k ne
+      ∙ sym (bits_anywhere 1024 old k (omega (arith, long)))
+      ∙ ap (λ l. get_or l k false) view

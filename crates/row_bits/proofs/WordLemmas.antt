@@ -63,11 +63,11 @@ none_to_end words from to end before k le =
 
 -- ---- a word written at its place
 
-other_word : (words : List ℕ) (at w k : ℕ) → (k / 64 ≡ at → ⊥) → is_set (set words at w) k ≡ is_set words k
+pub other_word : (words : List ℕ) (at w k : ℕ) → (k / 64 ≡ at → ⊥) → is_set (set words at w) k ≡ is_set words k
 unfolding is_set
 other_word words at w k ne = rw (get_or-set_other words at (k / 64) w 0 ne) refl
 
-same_word : (words : List ℕ) (at w bit k : ℕ) → at < length words → k ≡ at * 64 + bit → bit < 64 → is_set (set words at w) k ≡ (bit_at w bit == 1)
+pub same_word : (words : List ℕ) (at w bit k : ℕ) → at < length words → k ≡ at * 64 + bit → bit < 64 → is_set (set words at w) k ≡ (bit_at w bit == 1)
 same_word words at w bit k there e lt = set_at (set words at w) at bit k e lt ∙ ap (λ v. bit_at v bit == 1) (get_or-set_same words at w 0 there)
 
 or_set : (words : List ℕ) (at m bit k : ℕ) → at < length words → k ≡ at * 64 + bit → bit < 64 → bit_at m bit ≡ 1 → is_set (set words at (bit_or (get_or words at 0) m)) k ≡ true
@@ -186,7 +186,7 @@ min_both (suc zero) (suc zero) lt in2 = refl
 min_both (suc zero) (suc (suc b)) lt in2 = absurd (omega arith)
 min_both (suc (suc a)) b lt in2 = absurd (omega arith)
 
-max_some : (a b : ℕ) → a < 2 → b < 2 → (max a b == 1) ≡ ((a == 1) || (b == 1))
+pub max_some : (a b : ℕ) → a < 2 → b < 2 → (max a b == 1) ≡ ((a == 1) || (b == 1))
 max_some zero zero lt in2 = refl
 max_some zero (suc zero) lt in2 = refl
 max_some zero (suc (suc b)) lt in2 = absurd (omega arith)

@@ -1,5 +1,6 @@
 // A truth value per row of a page.
-ghost use Rattle.std.specs.Prelude.{◌≡◌, ◌<◌, ◌≤◌, ℕ, true, false, IfSome, IfNone, replicate, slice_index_or, slice_set, count_by};
+ghost use Rattle.std.specs.Prelude.{◌≡◌, ◌≢◌, ◌<◌, ◌≤◌, ◌+◌, ◌*◌, ◌/◌, ◌==◌, ◌||◌, ℕ, true, false, IfSome, IfNone, replicate, slice_index_or, slice_set, count_by};
+ghost use Rattle.std.specs.Int.{bit_at};
 ghost use Rattle.row_bits.specs.Bits.{first_true, both_true, some_true};
 
 use crate::words::{and_with, count_set, fill, is_set, next_set, or_with, put};
@@ -66,6 +67,27 @@ impl PageBits {
         ensures { self.new ≡ slice_set self.old place value }
     {
         put(&mut self.words, place, value);
+    }
+
+    /// Makes the value at a place true where this one is, and leaves it as it was otherwise. It takes no memory.
+    pub fn add(&mut self, place: usize, value: bool)
+        requires { place < PAGE_ROWS }
+        ensures here { slice_index_or self.new place false ≡ (slice_index_or self.old place false || value) }
+        ensures others { (k : ℕ) → k ≢ place → slice_index_or self.new k false ≡ slice_index_or self.old k false }
+    {
+        if value {
+            put(&mut self.words, place, true);
+        }
+    }
+
+    /// Makes those of 64 places true whose bits of a word are set, the lowest bit first: the places from 64 times `at` on. The
+    /// others stay. It takes no memory.
+    pub fn add_word(&mut self, at: usize, truths: u64)
+        requires { at < 16 }
+        ensures here { (bit : ℕ) → bit < 64 → slice_index_or self.new (at * 64 + bit) false ≡ (slice_index_or self.old (at * 64 + bit) false || bit_at truths bit == 1) }
+        ensures others { (k : ℕ) → k / 64 ≢ at → slice_index_or self.new k false ≡ slice_index_or self.old k false }
+    {
+        self.words[at] |= truths;
     }
 
     /// Whether the value at a place is true. It takes no memory.

@@ -1,0 +1,7 @@
+//! Tests of the rows of packed words that lie in rounds. It has no code of its own.
+#![tactic(auto)]
+
+#[cfg(test)]
+mod made;
+#[cfg(test)]
+mod rounds;
