@@ -6,7 +6,11 @@ ghost use Rattle.blink_edge.specs.Causes.{HasCause, next};
 
 use crate::count::one_more;
 use crate::{Failed, Sink, Source};
-use std::io::{Read, Write};
+use std::io;
+use std::io::{ErrorKind, Read, Write};
+
+// How often a read or a write is made at most, where the system interrupts each.
+const MOST_TRIES: u32 = 1_000;
 
 /// A source over a reader, such as standard input. It tells nothing of its bytes, and counts the reader's errors.
 #[derive(Drop)]
@@ -36,7 +40,8 @@ impl<R: Read> Source for StdIn<R> {
 
     ghost never_fails = { λ s. ⊥ };
 
-    /// Takes what the reader gives. Each error of the reader is a fault.
+    /// Takes what the reader gives. A read that the system interrupts is made again, at most a thousand times; each other
+    /// error of the reader is a fault.
     fn take(&mut self, into: &mut [u8]) -> Result<usize, Failed>
         ensures bound { ReadsAtMost result into.new }
         ensures bytes { ReadConsumes None None result into.new }
@@ -49,7 +54,7 @@ impl<R: Read> Source for StdIn<R> {
         ensures passed { ReadConsumes (R.remaining (reader_under self.old)) (R.remaining (reader_under self.new)) result into.new }
         ensures counted { source_faults self.new ≡ (if is_err result then next (source_faults self.old) else source_faults self.old) }
     {
-        match self.inner.read(into) {
+        match read_again(&mut self.inner, into) {
             Ok(count) => Ok(count),
             Err(_) => {
                 self.faults = one_more(self.faults);
@@ -88,8 +93,8 @@ impl<W: Write> Sink for StdOut<W> {
 
     ghost sure_room = { λ s. 0 };
 
-    /// Gives the writer what it takes. Each error of the writer is a fault, and so is a write that takes none of a piece
-    /// that isn't empty.
+    /// Gives the writer what it takes. A write that the system interrupts is made again, at most a thousand times; each
+    /// other error of the writer is a fault, and so is a write that takes none of a piece that isn't empty.
     fn give(&mut self, bytes: &[u8]) -> Result<usize, Failed>
         ensures bound { WritesAtMost result bytes.now }
         ensures some { IfOk result (λ n. 0 < length bytes.now → 0 < n) }
@@ -103,7 +108,7 @@ impl<W: Write> Sink for StdOut<W> {
         ensures passed { WriteAppends (W.contents (writer_under self.old)) (W.contents (writer_under self.new)) result bytes.now }
         ensures counted { sink_faults self.new ≡ (if is_err result then next (sink_faults self.old) else sink_faults self.old) }
     {
-        if let Ok(count) = self.inner.write(bytes)
+        if let Ok(count) = write_again(&mut self.inner, bytes)
             && (count > 0 || bytes.is_empty())
         {
             return Ok(count);
@@ -111,4 +116,32 @@ impl<W: Write> Sink for StdOut<W> {
         self.faults = one_more(self.faults);
         Err(Failed)
     }
+}
+
+// Reads, and again where the system interrupted the read.
+fn read_again<R: Read>(reader: &mut R, into: &mut [u8]) -> io::Result<usize>
+    ensures bound { ReadsAtMost result into.new }
+    ensures bytes { ReadConsumes (R.remaining reader.old) (R.remaining reader.new) result into.new }
+{
+    for _ in 1..MOST_TRIES {
+        match reader.read(into) {
+            Err(error) if error.kind() == ErrorKind::Interrupted => {}
+            done => return done,
+        }
+    }
+    reader.read(into)
+}
+
+// Writes, and again where the system interrupted the write.
+fn write_again<W: Write>(writer: &mut W, bytes: &[u8]) -> io::Result<usize>
+    ensures bound { WritesAtMost result bytes.now }
+    ensures bytes { WriteAppends (W.contents writer.old) (W.contents writer.new) result bytes.now }
+{
+    for _ in 1..MOST_TRIES {
+        match writer.write(bytes) {
+            Err(error) if error.kind() == ErrorKind::Interrupted => {}
+            done => return done,
+        }
+    }
+    writer.write(bytes)
 }

@@ -43,6 +43,62 @@ impl Write for Full {
     }
 }
 
+// A reader of two bytes and a writer that takes all, each call of which the system interrupts so many times before.
+#[derive(Drop)]
+struct Interrupted {
+    times: u32,
+    left: u32,
+    given: bool,
+}
+
+impl Interrupted {
+    fn new(times: u32) -> Interrupted {
+        Interrupted {
+            times,
+            left: times,
+            given: false,
+        }
+    }
+
+    // Whether this call is interrupted.
+    fn is_interrupted(&mut self) -> bool {
+        if self.left == 0 {
+            self.left = self.times;
+            return false;
+        }
+        self.left -= 1;
+        true
+    }
+}
+
+impl Read for Interrupted {
+    fn read(&mut self, buf: &mut [u8]) -> IoResult<usize> {
+        if self.is_interrupted() {
+            return Err(Error::from(ErrorKind::Interrupted));
+        }
+        if self.given || buf.len() < 2 {
+            return Ok(0);
+        }
+        self.given = true;
+        buf[0] = b'a';
+        buf[1] = b'b';
+        Ok(2)
+    }
+}
+
+impl Write for Interrupted {
+    fn write(&mut self, buf: &[u8]) -> IoResult<usize> {
+        if self.is_interrupted() {
+            return Err(Error::from(ErrorKind::Interrupted));
+        }
+        Ok(buf.len())
+    }
+
+    fn flush(&mut self) -> IoResult<()> {
+        Ok(())
+    }
+}
+
 const TEXT: &str = "from a reader";
 
 // How many bytes are allowed, and how the read of a text of thirteen ends.
@@ -67,6 +123,9 @@ fn a_reader_is_read_to_its_end(rt: HostRuntime) -> Result<(), Fail> {
         assert_eq!(rt; bytes.as_slice(), TEXT.as_bytes(), "{end}");
     }
     assert_eq!(rt; read_end(Broken { calls: 0 }, 12, &mut bytes), "failed");
+    assert_eq!(rt; read_end(Interrupted::new(3), 12, &mut bytes), "whole");
+    assert_eq!(rt; bytes.as_slice(), b"ab".as_slice());
+    assert_eq!(rt; read_end(Interrupted::new(2_000), 12, &mut bytes), "failed");
     Ok(())
 }
 
@@ -82,6 +141,8 @@ fn write_ends<W: Write + Drop>(writer: W) -> (bool, bool) {
 fn a_writer_takes_all_or_fails(rt: HostRuntime) {
     assert_eq!(rt; write_ends(Vec::new(rt.alloc())), (true, true));
     assert_eq!(rt; write_ends(Full), (false, true));
+    assert_eq!(rt; write_ends(Interrupted::new(3)), (true, true));
+    assert_eq!(rt; write_ends(Interrupted::new(2_000)), (false, true));
     assert_eq!(rt;
         write_all(&mut StdOut::new(Full), TEXT.as_bytes()),
         Err(Failed)
