@@ -5,6 +5,7 @@ ghost use Rattle.std.specs.Map.{keys_of, values_of};
 ghost use Rattle.blink_histogram.specs.Ranks.{counted};
 ghost use Rattle.blink_histogram.specs.InternerRepr.{number_of, numbered_values};
 
+use crate::digest::{Digest, KeyedHasher};
 use blink_base::Value;
 use indexmap::IndexMap;
 use std::alloc::{AllocError, Global};
@@ -16,7 +17,7 @@ use std::marker::Model;
 #[derive(Drop)]
 pub struct Interner {
     alloc: Global,
-    counts: IndexMap<Value, u64>,
+    counts: IndexMap<Value, u64, KeyedHasher>,
 }
 
 impl Model for Interner {
@@ -36,9 +37,17 @@ impl Interner {
     pub fn new(alloc: Global) -> Interner
         ensures { result ≡ counted [] }
     {
+        Interner::keyed(alloc, Digest::new())
+    }
+
+    /// The same, before values whose digest is known. The digest decides how values are hashed, and no answer. It takes no
+    /// memory.
+    pub fn keyed(alloc: Global, values: Digest) -> Interner
+        ensures { result ≡ counted [] }
+    {
         Interner {
             alloc,
-            counts: IndexMap::new(alloc),
+            counts: IndexMap::with_hasher(alloc, KeyedHasher::new(values.number())),
         }
     }
 

@@ -1,8 +1,10 @@
 //! The distinct values of a column, numbered in the order of first sight, and how often each stands in it.
 #![tactic(auto)]
 
+mod digest;
 pub mod examples;
 mod interner;
 mod ranks;
 
+pub use digest::Digest;
 pub use interner::Interner;

@@ -1,5 +1,5 @@
 -- What rows behind a standing image make of it.
-use Rattle.std.proofs.Common.{◌≡◌, ◌≤◌, ◌<◌, ℕ, ◌+◌, true, false, not, List, ◌++◌, Option, Some, None, map, filter, length, nat_lt, All, IfSome, if◌then◌else◌, refl, sym, ap, ◌∙◌, subst, arith}
+use Rattle.std.proofs.Common.{◌≡◌, ◌≤◌, ◌<◌, ℕ, ◌+◌, Result, Ok, Err, OnOk, true, false, not, List, ◌++◌, Option, Some, None, map, filter, length, nat_lt, All, IfSome, if◌then◌else◌, refl, sym, ap, ◌∙◌, subst, arith}
 use Rattle.std.specs.List.{list_all}
 use Rattle.std.proofs.lemmas.Bool.{lt-ltb, le-ltb, ltb-true, ltb-false}
 use Rattle.blink_base.specs.declared.schema.Schema.{Schema}
@@ -120,3 +120,8 @@ placed_apart columns list batch rows cells rest same seen placed_rows = subst (�
 -- the rows of an image, as calls read them
 pub rows_read : (image : TableImage) (schema : Schema) (columns list : List Classes) (cells items : List Cell) (rest more : List Row) → image_of schema columns cells rest ≡ image → list ≡ columns → items ≡ cells → more ≡ rest → all_rows list items more ≡ rows_of image
 rows_read image schema columns list cells items rest more view same of_cells of_rest = (λ i. all_rows (same i) (of_cells i) (of_rest i)) ∙ sym (rows_seen image schema columns cells rest view)
+
+-- what holds in every case holds of an Ok
+pub on_ok : {X E P : Type 0} (result : Result X E) → P → OnOk result P
+on_ok (Ok x) p = p
+on_ok (Err e) p = tt

@@ -14,6 +14,7 @@ pub mod ImageLawLemmas
 pub mod ImageRoomLemmas
 pub mod InsertRowLemmas
 pub mod InsertRowReprLemmas
+pub mod KeyPlaceLemmas
 pub mod KeyedRowLemmas
 pub mod LaidImageLemmas
 pub mod MergeCellsLemmas

@@ -1,11 +1,11 @@
 -- Keys that stand before.
-use Rattle.std.proofs.Common.{◌≡◌, ◌≤◌, ◌<◌, ℕ, zero, suc, ◌+◌, Bool, true, false, cond, pos, List, [], ◌∷◌, ◌++◌, map, take, drop, length, get_or, slice_get, Some, None, find, count_by, unwrap_or, refl, sym, ap, ◌∙◌, arith}
+use Rattle.std.proofs.Common.{◌≡◌, ◌≤◌, ◌<◌, ℕ, zero, suc, ◌+◌, Bool, true, false, ◌||◌, cond, pos, List, [], ◌∷◌, ◌++◌, map, take, drop, length, get_or, slice_get, Some, None, find, count_by, unwrap_or, refl, sym, ap, ◌∙◌, arith}
 use Rattle.std.specs.List.{list_any}
 use Rattle.std.specs.Option.{option_or}
 use Rattle.std.specs.Map.{keys_of, values_of}
 use Rattle.std.proofs.lemmas.Bool.{or_parts}
 use Rattle.std.proofs.lemmas.List.{append_assoc, take_all, take_more, take-append-drop, get_or-map, get_or_default, length-map, map-append}
-use Rattle.std.proofs.lemmas.List.Folds.{find-append}
+use Rattle.std.proofs.lemmas.List.Folds.{find-append, list_any-append}
 use Rattle.std.proofs.lemmas.List.Sums.{sum_by-cons, sum_by-append}
 use Rattle.blink_lists.specs.Lists.{numbered}
 use Rattle.blink_base.specs.declared.value.Value.{Value}
@@ -116,21 +116,30 @@ pub keys_more : (held keys : List Value) (row : ℕ) (v : Value) → row < lengt
 keys_more held keys row v lt is =
     ap (λ l. held ++ l) (take_more keys row (Int (pos 0)) lt ∙ ap (λ x. take row keys ++ x ∷ []) is) ∙ sym (append_assoc held (take row keys) (v ∷ []))
 
--- a key that was numbered once is new
-pub once_here : (held keys : List Value) (row n count : ℕ) (v : Value) (new : List Counted) → row < length keys → get_or keys row (Int (pos 0)) ≡ v → NoneOf held keys row
-    → new ≡ counted ((held ++ take row keys) ++ v ∷ []) → slice_get (keys_of new) n ≡ Some v → slice_get (values_of new) n ≡ Some count → count ≤ 1 → NoneOf held keys (row + 1)
-once_here held keys row n count v new lt is none counts key number few =
-    let last = counted_last (held ++ take row keys) new n count v counts key number in
-    let seldom_here = seldom (same_value v) (held ++ take row keys) (omega arith) in
-    none_more held keys row (Int (pos 0)) lt none (ap (λ w. list_any (same_value w) (held ++ take row keys)) is ∙ seldom_here)
+-- a key stands before where it does among the keys of cells, or among those that are numbered
+module _ (front held keys : List Value) (row : ℕ) (v : Value) (lt : row < length keys) (is : get_or keys row (Int (pos 0)) ≡ v) where
+  stands_split : stands_before (front ++ held) keys (row, get_or keys row (Int (pos 0))) ≡ (list_any (same_value v) front || list_any (same_value v) (held ++ take row keys))
+  stands_split =
+      ap (λ w. list_any (same_value w) ((front ++ held) ++ take row keys)) is ∙ ap (list_any (same_value v)) (append_assoc front held (take row keys)) ∙ list_any-append (same_value v) front (held ++ take row keys)
 
--- one that was numbered before stands twice
-pub twice_here : (held keys : List Value) (row n count : ℕ) (v : Value) (new : List Counted) → row < length keys → get_or keys row (Int (pos 0)) ≡ v → NoneOf held keys row
-    → new ≡ counted ((held ++ take row keys) ++ v ∷ []) → slice_get (keys_of new) n ≡ Some v → slice_get (values_of new) n ≡ Some count → 1 < count → duplicate_of (repeated_key held keys) ≡ Some (DuplicateKey (row + 1))
-twice_here held keys row n count v new lt is none counts key number many =
-    let last = counted_last (held ++ take row keys) new n count v counts key number in
-    let often_here = often (same_value v) (held ++ take row keys) (omega arith) in
-    ap duplicate_of (first_twice held keys row (Int (pos 0)) lt none (ap (λ w. list_any (same_value w) (held ++ take row keys)) is ∙ often_here))
+  -- one that stands among the first
+  pub held_here : NoneOf (front ++ held) keys row → list_any (same_value v) front ≡ true → duplicate_of (repeated_key (front ++ held) keys) ≡ Some (DuplicateKey (row + 1))
+  held_here none there = ap duplicate_of (first_twice (front ++ held) keys row (Int (pos 0)) lt none (stands_split ∙ ap (λ b. b || list_any (same_value v) (held ++ take row keys)) there))
+
+  module _ (n count : ℕ) (new : List Counted) (counts : new ≡ counted ((held ++ take row keys) ++ v ∷ [])) (key : slice_get (keys_of new) n ≡ Some v) (number : slice_get (values_of new) n ≡ Some count) where
+    -- one that was numbered once is new
+    pub once_here : NoneOf (front ++ held) keys row → list_any (same_value v) front ≡ false → count ≤ 1 → NoneOf (front ++ held) keys (row + 1)
+    once_here none absent few =
+        let last = counted_last (held ++ take row keys) new n count v counts key number in
+        let seldom_here = seldom (same_value v) (held ++ take row keys) (omega arith) in
+        none_more (front ++ held) keys row (Int (pos 0)) lt none (stands_split ∙ ap (λ b. b || list_any (same_value v) (held ++ take row keys)) absent ∙ seldom_here)
+
+    -- one that was numbered before stands twice
+    pub twice_here : NoneOf (front ++ held) keys row → list_any (same_value v) front ≡ false → 1 < count → duplicate_of (repeated_key (front ++ held) keys) ≡ Some (DuplicateKey (row + 1))
+    twice_here none absent many =
+        let last = counted_last (held ++ take row keys) new n count v counts key number in
+        let often_here = often (same_value v) (held ++ take row keys) (omega arith) in
+        ap duplicate_of (first_twice (front ++ held) keys row (Int (pos 0)) lt none (stands_split ∙ ap (λ b. b || list_any (same_value v) (held ++ take row keys)) absent ∙ often_here))
 
 -- the keys of a cell, as a loop reads them
 pub cell_key : (columns : List Classes) (cell : Cell) (row key : ℕ) (values : Classes) (classes : List ℕ) (code : ℕ) (v : Value) → IsCellRepr columns cell → row < cell.rows → key < length columns

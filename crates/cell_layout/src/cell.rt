@@ -1,10 +1,10 @@
 // Rows whose values are in the same classes.
-ghost use Rattle.std.specs.Prelude.{◌≡◌, ◌≢◌, ◌<◌, ◌≤◌, ◌*◌, ◌+◌, ◌++◌, ◌∷◌, [], ℕ, List as Listed, OnOk, All, length, sum_by, slice_index_or as get_or, IfOk, map, true};
+ghost use Rattle.std.specs.Prelude.{◌≡◌, ◌≢◌, ◌==◌, ◌<◌, ◌≤◌, ◌*◌, ◌+◌, ◌++◌, ◌∷◌, [], ℕ, List as Listed, OnOk, All, length, sum_by, slice_index_or as get_or, IfOk, map, true};
 ghost use Rattle.bank_pack.specs.Banks.{blocks_for, page_blocks, pages_for};
 ghost use Rattle.cell_layout.specs.CellIndex.{HasPushed, AreWithin};
 ghost use Rattle.cell_layout.specs.CellRepr.{row_of_codes, most_image_rows};
 ghost use Rattle.blink_lists.specs.declared.limits.TheConstants.{MOST_COLUMNS, MOST_ROWS};
-ghost use Rattle.std.specs.List.{list_all};
+ghost use Rattle.std.specs.List.{list_all, list_any};
 ghost use Rattle.masked_compare.specs.Fields.{is_width};
 ghost use Rattle.cell_layout.specs.Blocks.{banks_for, cell_widths};
 ghost use Rattle.cell_layout.specs.InsertRowRepr.{IsFirst};
@@ -62,6 +62,14 @@ impl Cell {
         ensures { result ≡ get_or (row_of_codes self.now.codes row) column 0 }
     {
         self.codes.as_slice()[column].as_slice()[row as usize]
+    }
+
+    // Whether a row has this code in a column.
+    pub(crate) fn has_code(&self, column: usize, code: u32) -> bool
+        requires { column < length self.now.codes }
+        ensures { (d : Listed ℕ × ℕ) → result ≡ list_any (λ held. held == code) (get_or self.now.codes column d).0 }
+    {
+        self.codes.as_slice()[column].as_slice().contains(&code)
     }
 
     // Puts a row behind the others. Where memory is wanting the cell is given up.

@@ -4,6 +4,7 @@ ghost use Rattle.cell_layout.specs.Layout.{empty_image};
 ghost use Rattle.cell_layout.specs.Valid.{is_valid};
 ghost use Rattle.blink_base.specs.RowFits.{is_schema};
 
+mod admit;
 mod append;
 mod build;
 mod cells;

@@ -6,16 +6,17 @@ ghost use Rattle.blink_histogram.specs.InternerRepr.{numbered_values};
 ghost use Rattle.column_classes.specs.ColumnClasses.{column_values};
 ghost use Rattle.blink_lists.specs.declared.limits.TheConstants.{MOST_ROWS};
 
-use blink_base::Row;
-use blink_histogram::Interner;
+use blink_base::{Row, Value};
+use blink_histogram::{Digest, Interner};
 use std::alloc::{AllocError, Global};
 
-// The distinct values of a column, counted.
+// The distinct values of a column, counted. The digest is of all values that may come.
 pub(crate) fn interned(
     alloc: Global,
     held: &[Row],
     batch: &[Row],
     column: usize,
+    values: Digest,
 ) -> Result<Interner, AllocError>
     requires held { All (λ row. column < length row) held.now }
     requires batch { All (λ row. column < length row) batch.now }
@@ -23,10 +24,34 @@ pub(crate) fn interned(
     ensures values { IfOk result (λ interner. interner ≡ counted (column_values (held.now ++ batch.now) column)) }
     ensures number { IfOk result (λ interner. numbered_values interner ≡ length held.now + length batch.now) }
 {
-    let mut interner = Interner::new(alloc);
+    let mut interner = Interner::keyed(alloc, values);
     number_column(&mut interner, held, column)?;
     number_column(&mut interner, batch, column)?;
     Ok(interner)
+}
+
+// Adds all values of rows to a digest: one walk for all columns, since rows lie apart in memory.
+pub(crate) fn digest_rows(digest: &mut Digest, rows: &[Row]) {
+    for row in rows {
+        digest_row(digest, row.as_slice());
+    }
+}
+
+// Adds the values of a row to a digest.
+fn digest_row(digest: &mut Digest, row: &[Value]) {
+    for value in row {
+        digest.add(value);
+    }
+}
+
+/// Adds the values of a column of further rows to a digest. Every row has the column. It takes no memory. Source: this
+/// project's own.
+pub fn digest_column(digest: &mut Digest, rows: &[Row], column: usize)
+    requires { All (λ row. column < length row) rows.now }
+{
+    for row in rows {
+        digest.add(&row.as_slice()[column]);
+    }
 }
 
 /// Numbers the values of a column of further rows. Every row has the column, and the rows that are numbered are at most

@@ -7,9 +7,9 @@ ghost use Rattle.blink_histogram.specs.Ranks.{rank_cmp};
 ghost use Rattle.column_classes.specs.ColumnClasses.{counts_of};
 
 use crate::class::classes_in;
-use crate::column::interned;
+use crate::column::{digest_rows, interned};
 use blink_base::{List, Row, Value};
-use blink_histogram::Interner;
+use blink_histogram::{Digest, Interner};
 use freq_partition::{Cut, cut, single};
 use order_codes::Dict;
 use std::alloc::{AllocError, Global};
@@ -33,19 +33,20 @@ impl RankedColumn {
     ghost use Rattle.blink_base.specs.declared.value.Value.{Value as Held};
     ghost use Rattle.column_classes.specs.ColumnStats.{IsColumn, IsRanked};
 
-    // Of a column of held rows and of a batch behind them.
+    // Of a column of held rows and of a batch behind them; the digest is of all their values.
     pub(crate) fn of(
         alloc: Global,
         held: &[Row],
         batch: &[Row],
         column: usize,
+        values: Digest,
     ) -> Result<RankedColumn, AllocError>
         requires held { All (λ row. column < length row) held.now }
         requires batch { All (λ row. column < length row) batch.now }
         requires few { length held.now + length batch.now ≤ MOST_ROWS }
         ensures { IfOk result (λ it. IsRanked (ranked (column_values (held.now ++ batch.now) column)) it) }
     {
-        let interner = interned(alloc, held, batch, column)?;
+        let interner = interned(alloc, held, batch, column, values)?;
         let numbers = interner.ranked(alloc)?;
         let counts = counts_by_rank(alloc, &interner, numbers.as_slice())?;
         let cut = cut(alloc, counts.as_slice())?;
@@ -103,9 +104,12 @@ pub(crate) fn ranked_columns(
     requires few { length held.now + length batch.now ≤ MOST_ROWS }
     ensures { IfOk result (λ all. AreRanked (held.now ++ batch.now) columns all.items) }
 {
+    let mut values = Digest::new();
+    digest_rows(&mut values, held);
+    digest_rows(&mut values, batch);
     let mut all = Vec::with_capacity(alloc, columns)?;
     for column in 0..columns {
-        all.push(RankedColumn::of(alloc, held, batch, column)?)?;
+        all.push(RankedColumn::of(alloc, held, batch, column, values)?)?;
     }
     Ok(all)
 }

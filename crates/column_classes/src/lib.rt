@@ -1,8 +1,8 @@
 //! The classes of a table's columns: each column's values are counted and ranked by how often they come, the best division
 //! of the ranks is found, at most three columns get it, and each column's classes become a dictionary.
 //!
-//! [`dictionaries`] is the one call that a layout makes; contracts see its answer as lists of classes. [`number_column`]
-//! numbers the values of one column, for who looks for keys.
+//! [`dictionaries`] is the one call that a layout makes; contracts see its answer as lists of classes. [`digest_column`]
+//! and [`number_column`] number the values of one column, for who looks for keys.
 #![tactic(auto)]
 
 mod class;
@@ -11,5 +11,5 @@ mod column_stats;
 mod dicts;
 pub mod laws;
 
-pub use column::number_column;
+pub use column::{digest_column, number_column};
 pub use dicts::dictionaries;

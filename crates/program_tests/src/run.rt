@@ -183,7 +183,7 @@ pub(crate) const NO_FILES: Files = &[];
 const LINES: Files = &[ONES, SEVEN];
 
 // Scripts that make, fill, describe and drop tables.
-const TABLES: [TableRow<'static>; 22] = [
+const TABLES: [TableRow<'static>; 23] = [
     (
         "run",
         "CREATE TABLE t (a INT); INSERT INTO t VALUES (3),(1),(3);",
@@ -231,6 +231,24 @@ const TABLES: [TableRow<'static>; 22] = [
         &[],
         Status::Refused,
         "created d\nrefused: duplicate key 3\ntable d rows 0 blocks 0\ncolumn k int classes 0 key\nrest 0\n",
+    ),
+    // A key is found in the first cell, in the second, in rest and in the batch.
+    (
+        "run",
+        "CREATE TABLE d (k INT PRIMARY KEY, g INT); \
+         INSERT INTO d VALUES (1,0),(2,0),(3,0),(4,0),(5,0),(6,0),(7,0),(8,0),(9,0),(10,0), \
+         (11,0),(12,0),(13,0),(14,0),(15,0),(16,0),(17,0),(18,0),(19,0),(20,0), \
+         (21,1),(22,2),(23,3),(24,4),(25,5),(26,6),(27,7),(28,8),(29,9),(30,10), \
+         (31,11),(32,12),(33,13),(34,14),(35,15),(36,16),(37,17),(38,18),(39,19),(40,20); \
+         REORGANIZE TABLE d; INSERT INTO d VALUES (41,0),(3,0); \
+         INSERT INTO d VALUES (41,1),(42,2),(30,0); INSERT INTO d VALUES (50,0); \
+         INSERT INTO d VALUES (51,7),(50,7); INSERT INTO d VALUES (60,0),(61,0),(60,9); DESCRIBE d",
+        &[],
+        Status::Refused,
+        "created d\nadded 40\nreorganized d\nrefused: duplicate key 2\nrefused: duplicate key 3\nadded 1\n\
+         refused: duplicate key 2\nrefused: duplicate key 3\ntable d rows 41 blocks 4\n\
+         column k int classes 1 6:40 key\ncolumn g int classes 2 1:2 5:19\n\
+         cell 0.0 rows 21 pages 1 banks 16\ncell 0.1 rows 19 pages 1 banks 16\nrest 1\n",
     ),
     (
         "run --rows 2",

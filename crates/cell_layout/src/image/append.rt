@@ -10,7 +10,6 @@ ghost use Rattle.cell_layout.specs.Valid.{is_valid};
 ghost use Rattle.blink_lists.specs.declared.limits.TheConstants.{MOST_ROWS};
 
 use crate::cells::{add_placed, place_rows};
-use crate::duplicate_keys::cell_keys_apart;
 use crate::laws::{rows_added_are_kept, standing_rows_keep_their_places};
 use crate::{Image, LayoutError};
 use blink_base::{List, Row};
@@ -45,33 +44,12 @@ impl<M: Ledger> Image<M> {
         // A table without a primary key is asked nothing.
         ensures decodes { self.old.schema.key ≡ None → decodes.new ≡ decodes.old }
     {
-        if exceed(self.rows, batch.len(), limit) {
-            return Err(LayoutError::Rows);
-        }
-        cell_keys_apart(
-            alloc,
-            self.schema.key,
-            self.dicts.as_slice(),
-            self.cells.as_slice(),
-            self.rest.as_slice(),
-            batch.as_slice(),
-            decodes,
-        )?;
+        self.admit(alloc, limit, batch)?;
         rows_added_are_kept();
         standing_rows_keep_their_places();
         let placed = place_rows(alloc, self.dicts.as_slice(), &[], batch.as_slice())?;
         add_placed(&mut self.cells, &mut self.rest, placed)?;
         self.rows += batch.len() as u64;
         Ok(())
-    }
-}
-
-// Whether held rows and further ones are more than a limit.
-pub(crate) fn exceed(held: u64, more: usize, limit: u64) -> bool
-    ensures { result ≡ nat_lt limit (held + more) }
-{
-    match held.checked_add(more as u64) {
-        Some(all) => all > limit,
-        None => true,
     }
 }

@@ -10,8 +10,6 @@ ghost use Rattle.cell_layout.specs.Valid.{is_valid, MayHold};
 ghost use Rattle.blink_lists.specs.declared.limits.TheConstants.{MOST_ROWS, MOST_COLUMNS};
 
 use crate::cells::{PlacedRows, place_rows};
-use crate::duplicate_keys::keys_apart;
-use crate::image::append::exceed;
 use crate::laws::rows_laid_out_anew_are_kept;
 use crate::{Image, LayoutError};
 use blink_base::{Copied, List, Row, Schema};
@@ -59,11 +57,8 @@ impl<M: Ledger> Image<M> {
         ensures rows { IfOk result (λ image. Rearranged (rows_of self.now ++ batch.now) (rows_of image)) }
         ensures refused { IsRefusal result (refusal_of limit self.now batch.now) }
     {
-        if exceed(self.rows, batch.len(), limit) {
-            return Err(LayoutError::Rows);
-        }
+        self.admit(alloc, limit, batch)?;
         let held = self.all_rows(alloc, decodes)?;
-        keys_apart(alloc, self.schema.key, held.as_slice(), batch.as_slice())?;
         rows_laid_out_anew_are_kept();
         Ok(Image::lay_out(alloc, &self.schema, held.as_slice(), batch.as_slice())?)
     }

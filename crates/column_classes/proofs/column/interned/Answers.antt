@@ -8,5 +8,5 @@ use Rattle.column_classes.proofs.column.interned.Goals as goal
 
 pub returns-clause-values : goal.returns-clause-values
 returns-clause-values c =
-    c.in_ok-number_column-2.ensures.values (column_values c.args.held.now c.args.column) (c.in_ok-number_column.ensures.values [] c.new-interner.ensures)
+    c.in_ok-number_column-2.ensures.values (column_values c.args.held.now c.args.column) (c.in_ok-number_column.ensures.values [] c.keyed-interner.ensures)
     ∙ ap counted (sym (map-append (λ (row : Row). get_or row c.args.column (Int (pos 0))) c.args.held.now c.args.batch.now))

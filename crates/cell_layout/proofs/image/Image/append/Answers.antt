@@ -1,33 +1,18 @@
-use Rattle.std.proofs.Common.{◌+◌, ◌++◌, None, ap, ◌∙◌, arith}
+use Rattle.std.proofs.Common.{◌+◌, ◌++◌, ◌∙◌, arith}
 use Rattle.std.proofs.lemmas.List.{length-append}
 use Rattle.std.proofs.lemmas.Result.{err_from_is_err_and}
-use Rattle.cell_layout.specs.Image.{TableImage, rows_of}
-use Rattle.cell_layout.specs.CellRepr.{image_of, all_rows}
-use Rattle.cell_layout.proofs.GrownImageLemmas.{beyond, within, by_keys, may_lie, row_count_is, rows_read, standing_placed, placed_apart, grown_image_is, grown_repr, grown_valid, grown_rows}
+use Rattle.cell_layout.specs.Image.{rows_of}
+use Rattle.cell_layout.specs.CellRepr.{image_of}
+use Rattle.cell_layout.proofs.GrownImageLemmas.{may_lie, row_count_is, standing_placed, placed_apart, grown_image_is, grown_repr, grown_valid, grown_rows}
 use Rattle.cell_layout.proofs.ImageRoomLemmas.{same_image, same_repr}
 use Rattle.cell_layout.proofs.image.Image.append.Goals as goal
-
-pub returns-then-exceed-clause-refused : goal.returns-then-exceed-clause-refused
-returns-then-exceed-clause-refused g c =
-    let inside = c.self.inside in
-    λ other. beyond c.args.self.now inside.schema inside.dicts inside.cells.0 inside.rest.0 c.args.batch.now inside.rows c.args.limit c.len.result c.self.view_is c.self.invariant c.len.ensures c.if-exceed.ensures
-
-pub returns-in_err-cell_keys_apart-clause-refused : goal.returns-in_err-cell_keys_apart-clause-refused
-returns-in_err-cell_keys_apart-clause-refused g c =
-    let inside = c.self.inside in
-    let few = within c.args.self.now inside.schema inside.dicts inside.cells.0 inside.rest.0 c.args.batch.now inside.rows c.args.limit c.len.result c.self.view_is c.self.invariant c.len.ensures c.if-exceed.ensures in
-    let held = rows_read c.args.self.now inside.schema inside.dicts c.as_slice.result.now inside.cells.0 c.as_slice-2.result.now inside.rest.0 c.as_slice-3.result.now c.self.view_is c.as_slice.ensures c.as_slice-2.ensures c.as_slice-3.ensures in
-    let p = err_from_is_err_and c.from_residual.result c.from_residual.ensures.1 in
-    rw (p.1, p.2)
-    (λ other. by_keys c.args.limit c.args.self.now c.args.batch.now (all_rows c.as_slice.result.now c.as_slice-2.result.now c.as_slice-3.result.now) c.as_slice-4.result.now inside.schema.key _ few
-    (ap (λ (i : TableImage). i.schema.key) c.self.view_is) held c.as_slice-4.ensures (c.in_err-cell_keys_apart.ensures.refused other))
 
 pub add_placed-requires : goal.add_placed-requires
 add_placed-requires g c =
     let inside = c.self.inside in
-    let few = within c.args.self.now inside.schema inside.dicts inside.cells.0 inside.rest.0 c.args.batch.now inside.rows c.args.limit c.len.result c.self.view_is c.self.invariant c.len.ensures c.if-exceed.ensures in
+    let few = c.in_ok-admit.ensures.few in
     let standing = standing_placed c.standing_rows_keep_their_places.ensures c.args.self.now inside.schema inside.dicts inside.cells.0 inside.rest.0 inside.rows c.requires.valid c.self.view_is c.self.invariant in
-    let added = placed_apart inside.dicts c.as_slice-5.result.now c.args.batch.now c.as_slice-6.result.now c.in_ok-placed.placed.cells.0 c.in_ok-placed.placed.rest.0 c.as_slice-5.ensures c.as_slice-6.ensures c.in_ok-placed.ensures in
+    let added = placed_apart inside.dicts c.as_slice.result.now c.args.batch.now c.as_slice-2.result.now c.in_ok-placed.placed.cells.0 c.in_ok-placed.placed.rest.0 c.as_slice.ensures c.as_slice-2.ensures c.in_ok-placed.ensures in
     let most = c.requires.limit in
     record { columns = inside.dicts; rows = rows_of c.args.self.now; batch = c.args.batch.now; standing = standing; added = added; few = omega arith }
 
@@ -45,34 +30,32 @@ returns-in_err-add_placed-clause-kept g c =
 pub invariant_of-self-2 : goal.invariant_of-self-2
 invariant_of-self-2 g c =
     let inside = c.self.inside in
-    let few = within c.args.self.now inside.schema inside.dicts inside.cells.0 inside.rest.0 c.args.batch.now inside.rows c.args.limit c.len.result c.self.view_is c.self.invariant c.len.ensures c.if-exceed.ensures in
+    let few = c.in_ok-admit.ensures.few in
     let standing = standing_placed c.standing_rows_keep_their_places.ensures c.args.self.now inside.schema inside.dicts inside.cells.0 inside.rest.0 inside.rows c.requires.valid c.self.view_is c.self.invariant in
-    let added = placed_apart inside.dicts c.as_slice-5.result.now c.args.batch.now c.as_slice-6.result.now c.in_ok-placed.placed.cells.0 c.in_ok-placed.placed.rest.0 c.as_slice-5.ensures c.as_slice-6.ensures c.in_ok-placed.ensures in
+    let added = placed_apart inside.dicts c.as_slice.result.now c.args.batch.now c.as_slice-2.result.now c.in_ok-placed.placed.cells.0 c.in_ok-placed.placed.rest.0 c.as_slice.ensures c.as_slice-2.ensures c.in_ok-placed.ensures in
     let all = c.in_ok-add_placed.ensures.ok inside.dicts (rows_of c.args.self.now) c.args.batch.now standing added in
     let count = row_count_is c.args.self.now inside.schema inside.dicts inside.cells.0 inside.rest.0 inside.rows c.self.view_is c.self.invariant in
     let long = length-append (rows_of c.args.self.now) c.args.batch.now in
-    let len = c.len-2.ensures in
+    let len = c.len.ensures in
     let most = c.requires.limit in
-    grown_repr inside.schema inside.dicts inside.cells.0 c.add_placed.new.cells.0 inside.rest.0 c.add_placed.new.rest.0 (rows_of c.args.self.now ++ c.args.batch.now) inside.rows (inside.rows + c.len-2.result) c.self.invariant all (omega arith) (omega arith)
+    grown_repr inside.schema inside.dicts inside.cells.0 c.add_placed.new.cells.0 inside.rest.0 c.add_placed.new.rest.0 (rows_of c.args.self.now ++ c.args.batch.now) inside.rows (inside.rows + c.len.result) c.self.invariant all (omega arith) (omega arith)
 
 pub returns-clause-grown : goal.returns-clause-grown
 returns-clause-grown g c =
     let inside = c.self.inside in
     let standing = standing_placed c.standing_rows_keep_their_places.ensures c.args.self.now inside.schema inside.dicts inside.cells.0 inside.rest.0 inside.rows c.requires.valid c.self.view_is c.self.invariant in
-    let added = placed_apart inside.dicts c.as_slice-5.result.now c.args.batch.now c.as_slice-6.result.now c.in_ok-placed.placed.cells.0 c.in_ok-placed.placed.rest.0 c.as_slice-5.ensures c.as_slice-6.ensures c.in_ok-placed.ensures in
+    let added = placed_apart inside.dicts c.as_slice.result.now c.args.batch.now c.as_slice-2.result.now c.in_ok-placed.placed.cells.0 c.in_ok-placed.placed.rest.0 c.as_slice.ensures c.as_slice-2.ensures c.in_ok-placed.ensures in
     let all = c.in_ok-add_placed.ensures.ok inside.dicts (rows_of c.args.self.now) c.args.batch.now standing added in
     grown_image_is c.args.self.now inside.schema inside.dicts inside.cells.0 c.add_placed.new.cells.0 inside.rest.0 c.add_placed.new.rest.0 c.args.batch.now c.self.view_is all
 
 pub returns-clause-valid : goal.returns-clause-valid
 returns-clause-valid g c =
     let inside = c.self.inside in
-    let few = within c.args.self.now inside.schema inside.dicts inside.cells.0 inside.rest.0 c.args.batch.now inside.rows c.args.limit c.len.result c.self.view_is c.self.invariant c.len.ensures c.if-exceed.ensures in
-    let held = rows_read c.args.self.now inside.schema inside.dicts c.as_slice.result.now inside.cells.0 c.as_slice-2.result.now inside.rest.0 c.as_slice-3.result.now c.self.view_is c.as_slice.ensures c.as_slice-2.ensures c.as_slice-3.ensures in
+    let few = c.in_ok-admit.ensures.few in
     let standing = standing_placed c.standing_rows_keep_their_places.ensures c.args.self.now inside.schema inside.dicts inside.cells.0 inside.rest.0 inside.rows c.requires.valid c.self.view_is c.self.invariant in
-    let added = placed_apart inside.dicts c.as_slice-5.result.now c.args.batch.now c.as_slice-6.result.now c.in_ok-placed.placed.cells.0 c.in_ok-placed.placed.rest.0 c.as_slice-5.ensures c.as_slice-6.ensures c.in_ok-placed.ensures in
+    let added = placed_apart inside.dicts c.as_slice.result.now c.args.batch.now c.as_slice-2.result.now c.in_ok-placed.placed.cells.0 c.in_ok-placed.placed.rest.0 c.as_slice.ensures c.as_slice-2.ensures c.in_ok-placed.ensures in
     let all = c.in_ok-add_placed.ensures.ok inside.dicts (rows_of c.args.self.now) c.args.batch.now standing added in
-    let none = by_keys c.args.limit c.args.self.now c.args.batch.now (all_rows c.as_slice.result.now c.as_slice-2.result.now c.as_slice-3.result.now) c.as_slice-4.result.now inside.schema.key None few
-    (ap (λ (i : TableImage). i.schema.key) c.self.view_is) held c.as_slice-4.ensures c.in_ok-cell_keys_apart.ensures.refused in
+    let none = c.in_ok-admit.ensures.refused in
     let may = may_lie c.args.self.now c.args.batch.now c.args.limit c.requires.valid c.requires.fit few c.requires.limit none in
     let is = grown_image_is c.args.self.now inside.schema inside.dicts inside.cells.0 c.add_placed.new.cells.0 inside.rest.0 c.add_placed.new.rest.0 c.args.batch.now c.self.view_is all in
     grown_valid c.rows_added_are_kept.ensures c.args.self.now (image_of inside.schema inside.dicts c.add_placed.new.cells.0 c.add_placed.new.rest.0) c.args.batch.now c.requires.valid may is
@@ -80,21 +63,11 @@ returns-clause-valid g c =
 pub returns-clause-rows : goal.returns-clause-rows
 returns-clause-rows g c =
     let inside = c.self.inside in
-    let few = within c.args.self.now inside.schema inside.dicts inside.cells.0 inside.rest.0 c.args.batch.now inside.rows c.args.limit c.len.result c.self.view_is c.self.invariant c.len.ensures c.if-exceed.ensures in
-    let held = rows_read c.args.self.now inside.schema inside.dicts c.as_slice.result.now inside.cells.0 c.as_slice-2.result.now inside.rest.0 c.as_slice-3.result.now c.self.view_is c.as_slice.ensures c.as_slice-2.ensures c.as_slice-3.ensures in
+    let few = c.in_ok-admit.ensures.few in
     let standing = standing_placed c.standing_rows_keep_their_places.ensures c.args.self.now inside.schema inside.dicts inside.cells.0 inside.rest.0 inside.rows c.requires.valid c.self.view_is c.self.invariant in
-    let added = placed_apart inside.dicts c.as_slice-5.result.now c.args.batch.now c.as_slice-6.result.now c.in_ok-placed.placed.cells.0 c.in_ok-placed.placed.rest.0 c.as_slice-5.ensures c.as_slice-6.ensures c.in_ok-placed.ensures in
+    let added = placed_apart inside.dicts c.as_slice.result.now c.args.batch.now c.as_slice-2.result.now c.in_ok-placed.placed.cells.0 c.in_ok-placed.placed.rest.0 c.as_slice.ensures c.as_slice-2.ensures c.in_ok-placed.ensures in
     let all = c.in_ok-add_placed.ensures.ok inside.dicts (rows_of c.args.self.now) c.args.batch.now standing added in
-    let none = by_keys c.args.limit c.args.self.now c.args.batch.now (all_rows c.as_slice.result.now c.as_slice-2.result.now c.as_slice-3.result.now) c.as_slice-4.result.now inside.schema.key None few
-    (ap (λ (i : TableImage). i.schema.key) c.self.view_is) held c.as_slice-4.ensures c.in_ok-cell_keys_apart.ensures.refused in
+    let none = c.in_ok-admit.ensures.refused in
     let may = may_lie c.args.self.now c.args.batch.now c.args.limit c.requires.valid c.requires.fit few c.requires.limit none in
     let is = grown_image_is c.args.self.now inside.schema inside.dicts inside.cells.0 c.add_placed.new.cells.0 inside.rest.0 c.add_placed.new.rest.0 c.args.batch.now c.self.view_is all in
     grown_rows c.rows_added_are_kept.ensures c.args.self.now (image_of inside.schema inside.dicts c.add_placed.new.cells.0 c.add_placed.new.rest.0) c.args.batch.now c.requires.valid may is
-
-pub returns-clause-refused : goal.returns-clause-refused
-returns-clause-refused g c =
-    let inside = c.self.inside in
-    let few = within c.args.self.now inside.schema inside.dicts inside.cells.0 inside.rest.0 c.args.batch.now inside.rows c.args.limit c.len.result c.self.view_is c.self.invariant c.len.ensures c.if-exceed.ensures in
-    let held = rows_read c.args.self.now inside.schema inside.dicts c.as_slice.result.now inside.cells.0 c.as_slice-2.result.now inside.rest.0 c.as_slice-3.result.now c.self.view_is c.as_slice.ensures c.as_slice-2.ensures c.as_slice-3.ensures in
-    by_keys c.args.limit c.args.self.now c.args.batch.now (all_rows c.as_slice.result.now c.as_slice-2.result.now c.as_slice-3.result.now) c.as_slice-4.result.now inside.schema.key None few
-    (ap (λ (i : TableImage). i.schema.key) c.self.view_is) held c.as_slice-4.ensures c.in_ok-cell_keys_apart.ensures.refused
