@@ -1,7 +1,7 @@
 // Rows pushed into a bank, and read back.
 ghost use Rattle.std.specs.Prelude.{◌≡◌, ◌<◌, ◌+◌, [], ◌∷◌, true, OnOk};
 ghost use Rattle.masked_compare.specs.Words.{IsRow};
-ghost use Rattle.bank_tests.specs.Held.{IsHeld};
+ghost use Rattle.bank_tests.specs.BankState.{IsHeld};
 
 use bank_pack::Bank;
 use bank_pack::laws::banks_have_their_blocks;

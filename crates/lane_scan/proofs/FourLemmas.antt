@@ -6,7 +6,7 @@ use Rattle.std.proofs.lemmas.Grind.{flat_map-append}
 use Rattle.std.proofs.lemmas.List.{drop-drop, length-take-le, take_all}
 use Rattle.std.proofs.Math.Seq.{take-add}
 use Rattle.std.proofs.lemmas.Simd.{length-chunk, chunk-fits, below_from_Fits, Each1-chunk, Each1-from_get_or}
-use Rattle.lane_scan.proofs.Masks.{mask_or}
+use Rattle.lane_scan.proofs.MaskLemmas.{mask_or}
 use Rattle.lane_scan.proofs.RoundLemmas.{length_flat}
 
 chunk_at : (n k i : ℕ) (xs : List ℕ) → i < k → get_or (first_chunks n k xs) i [] ≡ chunk (i * n) n xs

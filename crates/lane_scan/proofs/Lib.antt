@@ -1,6 +1,6 @@
-pub mod Digits
+pub mod DigitLemmas
 pub mod FourLemmas
 pub mod LaneLemmas
-pub mod Masks
+pub mod MaskLemmas
 pub mod RoundLemmas
 pub mod RowLemmas

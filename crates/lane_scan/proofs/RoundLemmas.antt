@@ -15,7 +15,7 @@ use Rattle.masked_compare.specs.Rounds.{IsRound, outside_of, outside_rounds}
 use Rattle.masked_compare.specs.declared.round.Round.{Round}
 use Rattle.lane_scan.specs.Scan.{HasOneRow, IsSpreadRound, first_row, lies_in, lies_in_one, row_lies}
 use Rattle.lane_scan.specs.Tops.{tops_in}
-use Rattle.lane_scan.proofs.Digits.{tops_back_all, tops_stacked_lt, top_at}
+use Rattle.lane_scan.proofs.DigitLemmas.{tops_back_all, tops_stacked_lt, top_at}
 use Rattle.lane_scan.proofs.LaneLemmas.{is_lane, lane_fact, IsLaneFact, words_room}
 
 length_lanes : (t n x : ℕ) → length (lanes_in t n x) ≡ n

@@ -1,6 +1,6 @@
 // Rows of words that lie in one of some rounds.
 
-use crate::made::{rounds_of, spread, words_of};
+use crate::words::{rounds_of, spread, words_of};
 use lane_scan::{scan, scan_plain};
 use masked_compare::Shape;
 use row_bits::PageBits;

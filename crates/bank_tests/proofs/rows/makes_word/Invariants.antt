@@ -1,4 +1,4 @@
-use Rattle.bank_tests.specs.Held.{IsHeld}
+use Rattle.bank_tests.specs.BankState.{IsHeld}
 use Rattle.bank_tests.proofs.rows.makes_word.Given as goal
 
 abbrev pub invariant-loop-codes : goal.invariant-loop-codes

@@ -1,5 +1,5 @@
 use Rattle.std.proofs.Common.{[], ◌∷◌}
-use Rattle.bank_tests.specs.Held.{IsHeld}
+use Rattle.bank_tests.specs.BankState.{IsHeld}
 use Rattle.bank_tests.proofs.rows.rows_come_back.Given as goal
 
 abbrev pub invariant-loop-row : goal.invariant-loop-row

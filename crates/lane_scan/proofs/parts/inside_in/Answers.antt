@@ -2,7 +2,7 @@ use Rattle.std.proofs.Common.{ap, sym, ◌∙◌, ◌==◌, ◌-◌, ◌/◌, �
 use Rattle.std.specs.Int.{bit_at}
 use Rattle.masked_compare.specs.Fields.{lane_count}
 use Rattle.masked_compare.specs.Rounds.{outside_rounds}
-use Rattle.lane_scan.proofs.Masks.{first_not_at, first_not_behind}
+use Rattle.lane_scan.proofs.MaskLemmas.{first_not_at, first_not_behind}
 use Rattle.lane_scan.proofs.RoundLemmas.{few_outside, outside_lies, clean_rounds}
 use Rattle.lane_scan.proofs.parts.inside_in.Goals as goal
 

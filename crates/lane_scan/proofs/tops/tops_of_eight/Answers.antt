@@ -1,4 +1,4 @@
-use Rattle.lane_scan.proofs.Digits.{tops_eight}
+use Rattle.lane_scan.proofs.DigitLemmas.{tops_eight}
 use Rattle.lane_scan.proofs.tops.tops_of_eight.Goals as goal
 
 pub returns : goal.returns

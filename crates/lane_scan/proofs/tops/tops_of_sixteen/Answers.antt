@@ -1,4 +1,4 @@
-use Rattle.lane_scan.proofs.Digits.{tops_sixteen}
+use Rattle.lane_scan.proofs.DigitLemmas.{tops_sixteen}
 use Rattle.lane_scan.proofs.tops.tops_of_sixteen.Goals as goal
 
 pub returns : goal.returns

@@ -1,4 +1,4 @@
-use Rattle.lane_scan.proofs.Digits.{tops_thirty_two}
+use Rattle.lane_scan.proofs.DigitLemmas.{tops_thirty_two}
 use Rattle.lane_scan.proofs.tops.tops_of_thirty_two.Goals as goal
 
 pub returns : goal.returns

@@ -1,7 +1,7 @@
 use Rattle.std.proofs.Common.{All, subst, sym}
 use Rattle.std.proofs.lemmas.List.Elements.{All-push}
 use Rattle.lane_scan.specs.Scan.{IsSpreadRound}
-use Rattle.lane_tests.proofs.made.rounds_of.Goals as goal
+use Rattle.lane_tests.proofs.words.rounds_of.Goals as goal
 
 pub loop-at-preserved : goal.loop-at-preserved
 loop-at-preserved c =

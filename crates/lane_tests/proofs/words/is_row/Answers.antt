@@ -1,6 +1,6 @@
 use Rattle.std.proofs.Common.{arith}
 use Rattle.lane_tests.proofs.RowLemmas.{row_of, one_more}
-use Rattle.lane_tests.proofs.made.is_row.Goals as goal
+use Rattle.lane_tests.proofs.words.is_row.Goals as goal
 
 pub loop-column-preserved : goal.loop-column-preserved
 loop-column-preserved c = (

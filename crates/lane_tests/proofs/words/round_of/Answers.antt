@@ -1,4 +1,4 @@
-use Rattle.lane_tests.proofs.made.round_of.Goals as goal
+use Rattle.lane_tests.proofs.words.round_of.Goals as goal
 
 pub returns : goal.returns
 returns c = record {
