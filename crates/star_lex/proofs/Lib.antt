@@ -1,9 +1,13 @@
+pub mod BlankLemmas
 pub mod ClosingQuoteLemmas
 pub mod ContentLemmas
 pub mod DigitLemmas
+pub mod FirstTokenLemmas
 pub mod FormLemmas
 pub mod LexLemmas
 pub mod PieceLemmas
 pub mod PrefixLemmas
 pub mod ProgressLemmas
+pub mod TextKindsLemmas
 pub mod TokenLemmas
+pub mod TokensLemmas

@@ -14,7 +14,7 @@ use blink_base::List;
 use std::alloc::Global;
 
 // The content of what begins at the front of the bytes from a place on: none of white space, or a token's kind.
-fn front_content(
+pub(crate) fn front_content(
     alloc: Global,
     left: &[u8],
     size: usize,

@@ -1,5 +1,5 @@
 // The tokens of pieces, and the pieces of scripts.
-use star_lex::{TokenKind, begins_name, is_name_byte, pieces, tokens};
+use star_lex::{LexFault, TokenKind, Tokens, begins_name, is_name_byte, pieces, tokens};
 use std::alloc::{AllocError, Global};
 use std::test::Fail;
 
@@ -36,6 +36,24 @@ const TOKENS: [(&[u8], &str); 22] = [
     (b"a;", "BadByte { at: 1 }"),
     (b"a \xff", "BadByte { at: 2 }"),
     (b"a '\xff'", "BadByte { at: 2 }"),
+];
+
+// Pieces, each with its tokens one behind the other, or with its first fault: how many are left, the mark in front and
+// the one behind the first, whether the word b stands in front, and what the first says.
+const STEPS: [(&[u8], &str); 7] = [
+    (b"", ""),
+    (b" --\n--b", ""),
+    (
+        b"-- (\nB--,\n,b",
+        "3 None Some(Comma) true name b; 2 Some(Comma) None false Comma; 1 None None true name b; ",
+    ),
+    (
+        b"\tbb'b'<=- -1",
+        "6 None None false name bb; 5 None Some(LessEqual) false text b; 4 Some(LessEqual) Some(Minus) false LessEqual; 3 Some(Minus) Some(Minus) false Minus; 2 Some(Minus) None false Minus; 1 None None false number 1; ",
+    ),
+    (b"b --", "1 None None true name b; "),
+    (b"b 'b", "OpenText { at: 2 }"),
+    (b"b 1000000000000000 ?", "LongNumber { at: 2 }"),
 ];
 
 // Scripts, each with the spans of its pieces.
@@ -75,6 +93,31 @@ fn tokens_text(alloc: Global, piece: &[u8]) -> Result<String, AllocError> {
     Ok(line)
 }
 
+// The tokens as in STEPS.
+fn steps_text(alloc: Global, read: Result<Tokens, LexFault>) -> Result<String, AllocError> {
+    let mut left = match read {
+        Ok(read) => read,
+        Err(fault) => return format!(in alloc; "{fault:?}"),
+    };
+    let mut line = String::new(alloc);
+    for _ in 0..100 {
+        let Some((kind, behind)) = left.next(alloc)? else {
+            break;
+        };
+        let says = kind_text(alloc, &kind)?;
+        line.push_str(&format!(in alloc;
+            "{} {:?} {:?} {} {}; ",
+            left.len(),
+            left.mark(),
+            left.behind().mark(),
+            left.is_word("b"),
+            says
+        )?)?;
+        left = behind;
+    }
+    Ok(line)
+}
+
 // Each piece as its span.
 fn pieces_text(alloc: Global, script: &[u8]) -> Result<String, AllocError> {
     let mut line = String::new(alloc);
@@ -93,6 +136,32 @@ fn tokens_are_read(rt: HostRuntime) -> Result<(), Fail> {
     for (piece, want) in TOKENS {
         let line = tokens_text(rt.alloc(), piece)?;
         assert_eq!(rt; line.as_str(), want, "where {want} is wanted");
+    }
+    Ok(())
+}
+
+#[test]
+fn tokens_are_cut(rt: HostRuntime) -> Result<(), Fail> {
+    for (piece, want) in STEPS {
+        assert!(rt; piece.len() < 100, "at {want}");
+        let line = steps_text(rt.alloc(), Tokens::of_piece(rt.alloc(), piece))?;
+        assert_eq!(rt; line.as_str(), want, "where {want} is wanted");
+    }
+    Ok(())
+}
+
+#[test]
+fn cut_tokens_are_the_listed_ones(rt: HostRuntime) -> Result<(), Fail> {
+    for (piece, want) in TOKENS {
+        assert!(rt; piece.len() < 100, "at {want}");
+        let read = tokens(rt.alloc(), piece);
+        let listed = match &read {
+            Ok(read) => Ok(Tokens::of_list(read.as_slice())),
+            Err(fault) => Err(*fault),
+        };
+        let listed = steps_text(rt.alloc(), listed)?;
+        let cut = steps_text(rt.alloc(), Tokens::of_piece(rt.alloc(), piece))?;
+        assert_eq!(rt; cut.as_str(), listed.as_str(), "where {want} is wanted");
     }
     Ok(())
 }
