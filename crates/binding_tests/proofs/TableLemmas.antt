@@ -9,7 +9,8 @@ use Rattle.blink_base.specs.declared.schema.Schema.{Schema}
 use Rattle.blink_base.specs.RowFits.{is_schema}
 use Rattle.star_lex.specs.declared.token.Token.{Token}
 use Rattle.star_sql.specs.declared.ast.Statement.{Statement}
-use Rattle.star_sql.specs.ParseResult.{IsSpelled, kinds_of}
+use Rattle.star_lex.specs.Kinds.{kinds_of}
+use Rattle.star_sql.specs.ParseResult.{IsSpelled}
 use Rattle.star_sql.specs.Spelling.{HasFewTokens}
 use Rattle.binding_tests.specs.Allowed.{are_allowed}
 

@@ -180,8 +180,8 @@ fn push_what(line: &mut String, what: &What) -> Result<(), AllocError> {
     match what {
         What::Column(column) => push_column(line, column),
         What::Count => push(line, &["Count"]),
-        What::Sum(expr) => push_aggregate(line, "Sum", expr),
-        What::Avg(expr) => push_aggregate(line, "Avg", expr),
+        What::Sum(expr) => push_aggregate(line, "Sum", expr.get()),
+        What::Avg(expr) => push_aggregate(line, "Avg", expr.get()),
         What::Min(column) => push_bound(line, "Min", column),
         What::Max(column) => push_bound(line, "Max", column),
     }

@@ -7,9 +7,10 @@ use Rattle.std.proofs.lemmas.Slice.Eq.{bytes_eq-Decides}
 use Rattle.star_lex.specs.declared.token.TokenKind.{TokenKind}
 use Rattle.star_lex.specs.declared.token.TokenKind.TheVariants.{Name, Symbol}
 use Rattle.star_lex.specs.declared.token.Mark.TheVariants as mark
+use Rattle.star_lex.specs.Kinds.{is_word}
 use Rattle.star_sql.specs.Spelling.{Spelled, name_of, mark_of, listed, in_parentheses, where_some, where_any}
 use Rattle.star_sql.specs.WellFormed.{some_and_all, if_there}
-use Rattle.star_sql.specs.Parsers.{ParseOf, ◌>>=◌, is_word, is_mark, behind, made_of, then_at, after_at, optional_at, closed_at, inside_at, listed_at, enclosed_at, by_at, Form, by_word}
+use Rattle.star_sql.specs.Parsers.{ParseOf, ◌>>=◌, is_mark, behind, made_of, then_at, after_at, optional_at, closed_at, inside_at, listed_at, enclosed_at, by_at, Form, by_word}
 use Rattle.star_sql.proofs.StepLemmas.{bind_some, chosen, cased, some_is, goes_on_after}
 use Rattle.std.proofs.lemmas.Bool.{and_parts, and_from}
 use Rattle.star_sql.proofs.TokenLemmas.{Parses, none_further, behind_either, word_takes, word_again, mark_is, mark_takes}

@@ -6,6 +6,7 @@ use Rattle.blink_lists.specs.Lists.{separated}
 use Rattle.star_lex.specs.declared.token.TokenKind.{TokenKind}
 use Rattle.star_lex.specs.declared.token.TokenKind.TheVariants.{Name}
 use Rattle.star_lex.specs.declared.token.Mark.TheVariants as mark
+use Rattle.star_lex.specs.Kinds.{is_word}
 use Rattle.star_sql.specs.declared.ast.TestWords.{TestWords}
 use Rattle.star_sql.specs.declared.ast.Primary.{Primary, Test, Group}
 use Rattle.star_sql.specs.declared.ast.Conj.{Conj}
@@ -13,7 +14,7 @@ use Rattle.star_sql.specs.declared.ast.Cond.{Cond}
 use Rattle.star_sql.specs.Spelling.{Spelled, name_of, mark_of, in_parentheses, test_spelled, cond_spelled}
 use Rattle.star_sql.specs.WellFormed.{some_and_all, is_test, is_condition}
 use Rattle.star_sql.specs.Conditions.{of_cond}
-use Rattle.star_sql.specs.Parsers.{cases_of, is_word, behind, made_of, inside_at, is_mark}
+use Rattle.star_sql.specs.Parsers.{cases_of, behind, made_of, inside_at, is_mark}
 use Rattle.star_sql.specs.PredicateParsers.{test_at}
 use Rattle.star_sql.specs.ConditionParsers.{conj_of, cond_of, primary_at, conj_at, cond_at, condition_at}
 use Rattle.star_sql.proofs.StepLemmas.{bind_some, cased, some_is}

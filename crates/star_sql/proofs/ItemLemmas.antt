@@ -5,6 +5,7 @@ use Rattle.star_lex.specs.declared.token.TokenKind.{TokenKind}
 use Rattle.star_lex.specs.declared.token.TokenKind.TheVariants.{Name, Number, Text, Symbol}
 use Rattle.star_lex.specs.declared.token.Mark.{Mark}
 use Rattle.star_lex.specs.declared.token.Mark.TheVariants as mark
+use Rattle.star_lex.specs.Kinds.{is_word}
 use Rattle.star_sql.specs.declared.ast.ColumnName.{ColumnName}
 use Rattle.star_sql.specs.declared.ast.Way.{Way}
 use Rattle.star_sql.specs.declared.ast.Way.TheVariants.{Plain, Asc, Desc}
@@ -14,7 +15,7 @@ use Rattle.star_sql.specs.declared.ast.What.{What}
 use Rattle.star_sql.specs.declared.ast.What.TheVariants as what
 use Rattle.star_sql.specs.Spelling.{Spelled, name_of, mark_of, qualified, column_spelled, expr_spelled, what_spelled, item_spelled, way_spelled, order_spelled}
 use Rattle.star_sql.specs.WellFormed.{is_column_name, is_expr, is_what, is_item, is_order_key}
-use Rattle.star_sql.specs.Parsers.{ParseOf, cases_of, is_word, is_mark, behind, made_of}
+use Rattle.star_sql.specs.Parsers.{ParseOf, cases_of, is_mark, behind, made_of}
 use Rattle.star_sql.specs.PredicateParsers.{column_at}
 use Rattle.star_sql.specs.QueryParsers.{joined_by, joined_at, expr_at, star_at, aggregates, aggregate_at, what_at, item_at, way_at, order_at}
 use Rattle.star_sql.proofs.StepLemmas.{bind_some, cased, some_is}

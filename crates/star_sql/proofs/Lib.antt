@@ -3,6 +3,7 @@ pub mod CombinatorLemmas
 pub mod ConditionLemmas
 pub mod DepthLemmas
 pub mod FoldLemmas
+pub mod FrontLemmas
 pub mod ItemLemmas
 pub mod LoopLemmas
 pub mod MemberTestLemmas

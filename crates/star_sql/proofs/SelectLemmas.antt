@@ -5,13 +5,14 @@ use Rattle.std.specs.List.{list_all}
 use Rattle.std.proofs.Math.Bool.{and_assoc}
 use Rattle.star_lex.specs.declared.token.TokenKind.{TokenKind}
 use Rattle.star_lex.specs.declared.token.TokenKind.TheVariants.{Name}
+use Rattle.star_lex.specs.Kinds.{is_word}
 use Rattle.star_sql.specs.declared.ast.ColumnName.{ColumnName}
 use Rattle.star_sql.specs.declared.ast.OrderKey.{OrderKey}
 use Rattle.star_sql.specs.declared.ast.Cond.{Cond}
 use Rattle.star_sql.specs.declared.ast.Select.{Select}
 use Rattle.star_sql.specs.Spelling.{Spelled, name_of, listed, where_some, where_any, column_spelled, item_spelled, order_spelled, cond_spelled, number_spelled, select_spelled}
 use Rattle.star_sql.specs.WellFormed.{if_there, is_column_name, is_order_key, is_written_limit, is_select}
-use Rattle.star_sql.specs.Parsers.{is_word, is_mark}
+use Rattle.star_sql.specs.Parsers.{is_mark}
 use Rattle.star_sql.specs.QueryParsers.{Parts, of_parts, end_at, select_at}
 use Rattle.star_sql.proofs.TokenLemmas.{Parses, none_further, names, limits}
 use Rattle.star_sql.proofs.CombinatorLemmas.{Passes, passes_word, passes_some, passes_any, passes_both, both, made, after, optionals, lists, bys}

@@ -6,6 +6,7 @@ use Rattle.blink_base.specs.declared.value.Kind.{Kind}
 use Rattle.blink_base.specs.Identifiers.{is_name}
 use Rattle.star_lex.specs.declared.token.TokenKind.{TokenKind}
 use Rattle.star_lex.specs.declared.token.TokenKind.TheVariants.{Name, Number, Text, Symbol}
+use Rattle.star_lex.specs.Kinds.{is_word}
 use Rattle.star_sql.specs.declared.ast.ColumnDef.{ColumnDef}
 use Rattle.star_sql.specs.declared.ast.Literal.{Literal}
 use Rattle.star_sql.specs.declared.ast.Statement.{Statement}
@@ -15,7 +16,7 @@ use Rattle.star_sql.specs.declared.fault.ParseFault.TheVariants as fault
 use Rattle.star_sql.specs.Spelling.{Spelled, name_of, text_of, kind_spelled, key_mark, literal_spelled, definition_spelled, in_parentheses, listed, spell}
 use Rattle.star_sql.specs.WellFormed.{some_and_all, is_definition, is_literal, is_well_formed}
 use Rattle.star_sql.specs.ParseResult.{IsSpelled, SpelledOnce}
-use Rattle.star_sql.specs.Parsers.{ParseOf, Gives, is_word, is_mark, behind, enclosed_at, literal_at}
+use Rattle.star_sql.specs.Parsers.{ParseOf, Gives, is_mark, behind, enclosed_at, literal_at}
 use Rattle.star_sql.specs.StatementParsers.{definition_at, named_at, filed_at, create_at, insert_at, of_both, forms, behind_word, statement_at, alone, whole}
 use Rattle.star_sql.proofs.StepLemmas.{some_is}
 use Rattle.std.proofs.Math.Bool.{and-true}

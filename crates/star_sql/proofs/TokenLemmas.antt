@@ -11,11 +11,12 @@ use Rattle.star_lex.specs.declared.token.TokenKind.{TokenKind}
 use Rattle.star_lex.specs.declared.token.TokenKind.TheVariants.{Name, Number, Text, Symbol}
 use Rattle.star_lex.specs.declared.token.Mark.{Mark}
 use Rattle.star_lex.specs.declared.token.Mark.TheVariants as mark
+use Rattle.star_lex.specs.Kinds.{is_word}
 use Rattle.star_sql.specs.declared.ast.Literal.{Literal}
 use Rattle.star_sql.specs.declared.ast.Literal.TheVariants as literal
 use Rattle.star_sql.specs.Spelling.{Spelled, name_of, text_of, kind_spelled, key_mark, literal_spelled, number_spelled}
 use Rattle.star_sql.specs.WellFormed.{is_written_number, is_written_limit, is_literal}
-use Rattle.star_sql.specs.Parsers.{ParseOf, ◌>>=◌, is_word, mark_index, is_mark, behind, name_at, text_at, number_at, date_at, plain_at, literal_at, kind_of_word, kind_at, key_at, limit_of, limit_at}
+use Rattle.star_sql.specs.Parsers.{ParseOf, ◌>>=◌, mark_index, is_mark, behind, name_at, text_at, number_at, date_at, plain_at, literal_at, kind_of_word, kind_at, key_at, limit_of, limit_at}
 use Rattle.star_sql.proofs.StepLemmas.{bind_some, guard_some, chosen, cased, some_is}
 
 -- a parser of what has one spelling: it takes what is spelled so, and takes it again, where no token that it would read on with stands behind it
@@ -39,6 +40,14 @@ word_is w (Name v) e = ap (λ (u : List ℕ). Name u) ((bytes_eq-Decides v w).0 
 word_is w (Number n) e = absurd cc
 word_is w (Text v) e = absurd cc
 word_is w (Symbol m) e = absurd cc
+
+-- words that are not equal
+pub other_word : (w v : List ℕ) → (w ≡ v → ⊥) → bytes_eq w v ≡ false
+other_word w v other = by (bytes_eq w v) (bytes_eq-Decides w v).0
+  where
+    by : (b : Bool) → (b ≡ true → w ≡ v) → b ≡ false
+    by true same = absurd (other (same refl))
+    by false same = refl
 
 -- the mark of a number
 abbrev mark_at : ℕ → Mark

@@ -1,10 +1,11 @@
 -- Parsers of conditions. Source: this project's own.
 use Rattle.std.specs.Prelude.{ℕ, zero, suc, List, length, None, codes}
+use Rattle.star_lex.specs.Kinds.{is_word}
 use Rattle.star_sql.specs.declared.ast.Primary.{Primary, Test, Group}
 use Rattle.star_sql.specs.declared.ast.Conj.{Conj}
 use Rattle.star_sql.specs.declared.ast.Cond.{Cond, roll-Cond}
 use Rattle.star_sql.specs.Spelling.{Spelled}
-use Rattle.star_sql.specs.Parsers.{ParseOf, cases_of, is_word, behind, made_of, inside_at, separated_at, is_mark}
+use Rattle.star_sql.specs.Parsers.{ParseOf, cases_of, behind, made_of, inside_at, separated_at, is_mark}
 use Rattle.star_sql.specs.PredicateParsers.{test_at}
 use Rattle.star_lex.specs.declared.token.Mark.TheVariants as mark
 

@@ -8,6 +8,7 @@ use Rattle.star_lex.specs.declared.token.LexFault.{LexFault}
 use Rattle.star_lex.specs.Lex.{lexed}
 use Rattle.star_lex.specs.declared.token.TokenKind.TheVariants.{Name, Number, Text, Symbol}
 use Rattle.star_lex.specs.declared.token.Mark.TheVariants as mark
+use Rattle.star_lex.specs.Kinds.{kinds_of}
 use Rattle.star_sql.specs.declared.ast.Literal.TheVariants as literal
 use Rattle.star_sql.specs.declared.ast.Statement.{Statement}
 use Rattle.star_sql.specs.declared.ast.Statement.TheVariants as statement
@@ -19,7 +20,7 @@ use Rattle.star_sql.specs.declared.ast.TestWords.TheVariants.{Columns, Between, 
 use Rattle.star_sql.specs.StatementParts.{bare, dotted, item, number, any_of, all_of, group_of}
 use Rattle.star_sql.specs.Spelling.{Spelled, spell}
 use Rattle.star_sql.specs.WellFormed.{is_well_formed}
-use Rattle.star_sql.specs.ParseResult.{kinds_of, is_deep}
+use Rattle.star_sql.specs.ParseResult.{is_deep}
 
 -- CREATE TABLE date (date DATE, n INT PRIMARY KEY)
 abbrev pub CreateSpelled : Type 0

@@ -1,6 +1,5 @@
 -- Which statement some tokens are the spelling of, and when too many parentheses are open. Source: this project's own.
-use Rattle.std.specs.Prelude.{◌≡◌, ℕ, ◌+◌, ◌<◌, Bool, true, false, ◌||◌, List, [], ◌∷◌, ◌++◌, map, nat_lt, IsTrue, count_by, if◌then◌else◌}
-use Rattle.star_lex.specs.declared.token.Token.{Token}
+use Rattle.std.specs.Prelude.{◌≡◌, ℕ, ◌+◌, ◌<◌, Bool, true, false, ◌||◌, [], ◌∷◌, ◌++◌, nat_lt, IsTrue, count_by, if◌then◌else◌}
 use Rattle.star_lex.specs.declared.token.TokenKind.{TokenKind}
 use Rattle.star_lex.specs.declared.token.TokenKind.TheVariants as token
 use Rattle.star_lex.specs.declared.token.Mark.TheVariants as mark
@@ -8,10 +7,6 @@ use Rattle.star_sql.specs.declared.ast.Statement.{Statement}
 use Rattle.star_sql.specs.Spelling.{Spelled, spell}
 use Rattle.star_sql.specs.WellFormed.{is_well_formed}
 use Rattle.blink_base.specs.declared.limits.TheConstants.{MOST_OPEN}
-
--- what tokens say, without their places
-abbrev pub kinds_of : List Token → Spelled
-kinds_of tokens = map (λ t. t.kind) tokens
 
 -- whether a token opens a parenthesis
 abbrev pub opens : TokenKind → Bool

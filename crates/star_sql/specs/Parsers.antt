@@ -8,6 +8,7 @@ use Rattle.star_lex.specs.declared.token.TokenKind.{TokenKind}
 use Rattle.star_lex.specs.declared.token.TokenKind.TheVariants.{Name, Number, Text, Symbol}
 use Rattle.star_lex.specs.declared.token.Mark.{Mark}
 use Rattle.star_lex.specs.declared.token.Mark.TheVariants as mark
+use Rattle.star_lex.specs.Kinds.{is_word}
 use Rattle.star_sql.specs.declared.ast.Literal.{Literal}
 use Rattle.star_sql.specs.declared.ast.Literal.TheVariants as literal
 use Rattle.star_sql.specs.declared.fault.ParseFault.{ParseFault}
@@ -45,13 +46,6 @@ Gives view (Err e) read = Fails e read
 abbrev pub Finds : {X : Type 0} → (X → Spelled) → Option X → Option Spelled → Type 0
 Finds view None read = read ≡ None
 Finds view (Some r) read = read ≡ Some (view r)
-
--- whether a token is this word
-abbrev pub is_word : List ℕ → TokenKind → Bool
-is_word word (Name w) = bytes_eq w word
-is_word word (Number n) = false
-is_word word (Text w) = false
-is_word word (Symbol m) = false
 
 -- the number of a mark among the marks, by which two are compared
 abbrev pub mark_index : Mark → ℕ

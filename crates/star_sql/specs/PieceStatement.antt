@@ -7,9 +7,10 @@ use Rattle.star_lex.specs.declared.token.Token.{Token}
 use Rattle.star_lex.specs.declared.token.LexFault.{LexFault}
 use Rattle.star_lex.specs.declared.token.LexFault.TheVariants as fault
 use Rattle.star_lex.specs.Lex.{lexed}
+use Rattle.star_lex.specs.Kinds.{kinds_of}
 use Rattle.star_sql.specs.declared.ast.Statement.{Statement}
 use Rattle.star_sql.specs.Spelling.{Spelled}
-use Rattle.star_sql.specs.ParseResult.{kinds_of, is_deep, IsSpelled}
+use Rattle.star_sql.specs.ParseResult.{is_deep, IsSpelled}
 
 -- the refusal of a piece that has no tokens; want of memory is no fault of a text
 abbrev pub text_refusal : LexFault → Refusal

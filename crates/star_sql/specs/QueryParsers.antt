@@ -3,6 +3,7 @@ use Rattle.std.specs.Prelude.{ℕ, List, [], ◌∷◌, Option, Some, None, code
 use Rattle.star_lex.specs.declared.token.TokenKind.TheVariants.{Name, Number, Text, Symbol}
 use Rattle.star_lex.specs.declared.token.Mark.{Mark}
 use Rattle.star_lex.specs.declared.token.Mark.TheVariants as mark
+use Rattle.star_lex.specs.Kinds.{is_word}
 use Rattle.star_sql.specs.declared.ast.ColumnName.{ColumnName}
 use Rattle.star_sql.specs.declared.ast.Way.{Way}
 use Rattle.star_sql.specs.declared.ast.Way.TheVariants.{Plain, Asc, Desc}
@@ -15,7 +16,7 @@ use Rattle.star_sql.specs.declared.ast.Item.{Item}
 use Rattle.star_sql.specs.declared.ast.Cond.{Cond}
 use Rattle.star_sql.specs.declared.ast.Select.{Select}
 use Rattle.star_sql.specs.Spelling.{Spelled}
-use Rattle.star_sql.specs.Parsers.{ParseOf, ◌>>=◌, cases_of, is_word, is_mark, behind, name_at, made_of, then_at, after_at, optional_at, inside_at, listed_at, by_at, Form, by_word, limit_at}
+use Rattle.star_sql.specs.Parsers.{ParseOf, ◌>>=◌, cases_of, is_mark, behind, name_at, made_of, then_at, after_at, optional_at, inside_at, listed_at, by_at, Form, by_word, limit_at}
 use Rattle.star_sql.specs.PredicateParsers.{column_at}
 use Rattle.star_sql.specs.ConditionParsers.{condition_at}
 

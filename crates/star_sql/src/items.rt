@@ -1,5 +1,4 @@
 // The items of SELECT.
-ghost use Rattle.star_sql.specs.ParseResult.{kinds_of};
 ghost use Rattle.star_sql.specs.Parsers.{Gives};
 ghost use Rattle.star_sql.specs.QueryParsers.{joined_at, aggregate_at, what_at};
 
@@ -7,32 +6,32 @@ use crate::parser::Parse;
 use crate::sequences::{inside, optional};
 use crate::tokens_at::{found_mark, mark};
 use crate::{ColumnName, Expr, Item, ParseFault, What};
-use blink_base::Word;
-use star_lex::{Mark, Token, TokenKind};
+use blink_base::{Boxed, Word};
+use star_lex::{Mark, TokenKind, Tokens};
 use std::alloc::Global;
 
 // An expression that begins with this column.
 #[tactic(auto, unfolding(crate::specs::QueryParsers::joined_at))]
-fn joined(
+fn joined<'a>(
     alloc: Global,
     first: ColumnName,
-    tokens: &[Token],
-) -> Result<(Expr, &[Token]), ParseFault>
-    ensures { Gives (λ x. (x.0, kinds_of x.1.now)) result (joined_at first (kinds_of tokens.now)) }
+    tokens: &Tokens<'a>,
+) -> Result<(Expr, Tokens<'a>), ParseFault>
+    ensures { Gives (λ x. x) result (joined_at first tokens.now) }
 {
     if let Some(behind) = found_mark(Mark::Star, tokens) {
-        let (second, rest) = ColumnName::parse(alloc, behind)?;
+        let (second, rest) = ColumnName::parse(alloc, &behind)?;
         return Ok((Expr::Times(first, second), rest));
     }
     if let Some(behind) = found_mark(Mark::Plus, tokens) {
-        let (second, rest) = ColumnName::parse(alloc, behind)?;
+        let (second, rest) = ColumnName::parse(alloc, &behind)?;
         return Ok((Expr::Plus(first, second), rest));
     }
     if let Some(behind) = found_mark(Mark::Minus, tokens) {
-        let (second, rest) = ColumnName::parse(alloc, behind)?;
+        let (second, rest) = ColumnName::parse(alloc, &behind)?;
         return Ok((Expr::Minus(first, second), rest));
     }
-    Ok((Expr::One(first), tokens))
+    Ok((Expr::One(first), tokens.copy()))
 }
 
 impl Parse for Expr {
@@ -41,9 +40,9 @@ impl Parse for Expr {
     ghost parses = { expr_at };
 
     #[tactic(auto, unfolding(crate::specs::QueryParsers::expr_at))]
-    fn parse(alloc: Global, tokens: &[Token]) -> Result<(Expr, &[Token]), ParseFault> {
+    fn parse<'a>(alloc: Global, tokens: &Tokens<'a>) -> Result<(Expr, Tokens<'a>), ParseFault> {
         let (first, rest) = ColumnName::parse(alloc, tokens)?;
-        joined(alloc, first, rest)
+        joined(alloc, first, &rest)
     }
 }
 
@@ -52,22 +51,22 @@ impl Parse for Expr {
 fn aggregate<'a>(
     alloc: Global,
     word: &str,
-    tokens: &'a [Token],
-) -> Result<(What, &'a [Token]), ParseFault>
-    ensures { Gives (λ x. (x.0, kinds_of x.1.now)) result (aggregate_at word.now (kinds_of tokens.now)) }
+    tokens: &Tokens<'a>,
+) -> Result<(What, Tokens<'a>), ParseFault>
+    ensures { Gives (λ x. x) result (aggregate_at word.now tokens.now) }
 {
     match word {
         "count" => {
-            let rest = mark(Mark::Star, mark(Mark::Left, tokens)?)?;
-            Ok((What::Count, mark(Mark::Right, rest)?))
+            let rest = mark(Mark::Star, &mark(Mark::Left, tokens)?)?;
+            Ok((What::Count, mark(Mark::Right, &rest)?))
         }
         "sum" => {
             let (expr, rest) = inside::<Expr>(alloc, tokens)?;
-            Ok((What::Sum(expr), rest))
+            Ok((What::Sum(Boxed::new(alloc, expr)?), rest))
         }
         "avg" => {
             let (expr, rest) = inside::<Expr>(alloc, tokens)?;
-            Ok((What::Avg(expr), rest))
+            Ok((What::Avg(Boxed::new(alloc, expr)?), rest))
         }
         "min" => {
             let (column, rest) = inside::<ColumnName>(alloc, tokens)?;
@@ -81,18 +80,20 @@ fn aggregate<'a>(
     }
 }
 
-#[tactic(auto, unfolding(crate::specs::QueryParsers::what_at))]
-fn what(alloc: Global, tokens: &[Token]) -> Result<(What, &[Token]), ParseFault>
-    ensures { Gives (λ x. (x.0, kinds_of x.1.now)) result (what_at (kinds_of tokens.now)) }
+// A column or an aggregate.
+#[tactic(auto, unfolding(crate::specs::QueryParsers::what_at), using(crate::proofs::FrontLemmas::what_plain))]
+fn what<'a>(alloc: Global, tokens: &Tokens<'a>) -> Result<(What, Tokens<'a>), ParseFault>
+    ensures { Gives (λ x. x) result (what_at tokens.now) }
 {
-    let [token, behind @ ..] = tokens else {
-        return Err(ParseFault::Syntax);
-    };
-    let TokenKind::Name(word) = &token.kind else {
-        return Err(ParseFault::Syntax);
-    };
-    if found_mark(Mark::Left, behind).is_some() {
-        return aggregate(alloc, word.as_str(), behind);
+    let behind = tokens.behind();
+    if found_mark(Mark::Left, &behind).is_some() {
+        let Some((kind, _)) = tokens.next(alloc)? else {
+            return Err(ParseFault::Syntax);
+        };
+        return match kind {
+            TokenKind::Name(word) => aggregate(alloc, word.as_str(), &behind),
+            _ => Err(ParseFault::Syntax),
+        };
     }
     let (column, rest) = ColumnName::parse(alloc, tokens)?;
     Ok((What::Column(column), rest))
@@ -104,9 +105,9 @@ impl Parse for Item {
     ghost parses = { item_at };
 
     #[tactic(auto, unfolding(crate::specs::QueryParsers::item_at))]
-    fn parse(alloc: Global, tokens: &[Token]) -> Result<(Item, &[Token]), ParseFault> {
+    fn parse<'a>(alloc: Global, tokens: &Tokens<'a>) -> Result<(Item, Tokens<'a>), ParseFault> {
         let (what, rest) = what(alloc, tokens)?;
-        let (name, rest) = optional::<Word>(alloc, "as", rest)?;
+        let (name, rest) = optional::<Word>(alloc, "as", &rest)?;
         Ok((Item { what, name }, rest))
     }
 }

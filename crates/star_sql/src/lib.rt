@@ -29,4 +29,4 @@ pub use ast::{
 };
 pub use fault::ParseFault;
 pub use laws::{depth_by_prefixes, one_spelling};
-pub use whole_statement::parse;
+pub use whole_statement::{parse, statement_of};

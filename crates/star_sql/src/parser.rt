@@ -1,9 +1,8 @@
 // The trait of what is parsed.
-ghost use Rattle.star_sql.specs.ParseResult.{kinds_of};
 ghost use Rattle.star_sql.specs.Parsers.{Gives};
 
 use crate::ParseFault;
-use star_lex::Token;
+use star_lex::Tokens;
 use std::alloc::Global;
 
 /// What can stand first in some tokens. Source: this project's own.
@@ -15,6 +14,6 @@ pub(crate) trait Parse: Sized {
     ghost parses: { Spelled → Option (Self × Spelled) };
 
     /// Takes it from the tokens.
-    fn parse(alloc: Global, tokens: &[Token]) -> Result<(Self, &[Token]), ParseFault>
-        ensures { Gives (λ x. (x.0, kinds_of x.1.now)) result (parses (kinds_of tokens.now)) };
+    fn parse<'a>(alloc: Global, tokens: &Tokens<'a>) -> Result<(Self, Tokens<'a>), ParseFault>
+        ensures { Gives (λ x. x) result (parses tokens.now) };
 }

@@ -1,6 +1,5 @@
 // Tests of columns.
 ghost use Rattle.std.specs.Prelude.{◌≡◌};
-ghost use Rattle.star_sql.specs.ParseResult.{kinds_of};
 ghost use Rattle.star_sql.specs.Parsers.{Gives};
 ghost use Rattle.star_sql.specs.PredicateParsers.{op_of, compared_at, bounds_at, worded_at, tested_at, test_at};
 
@@ -9,7 +8,7 @@ use crate::sequences::enclosed;
 use crate::tokens_at::{text, word};
 use crate::{ColumnName, Literal, ParseFault, TestWords};
 use blink_base::Op;
-use star_lex::{Mark, Token, TokenKind};
+use star_lex::{Mark, TokenKind, Tokens};
 use std::alloc::Global;
 
 // The comparison that a mark says.
@@ -29,13 +28,13 @@ fn op_of(mark: Mark) -> Option<Op>
 
 // A comparison with a literal, where one stands there, or else with a column.
 #[tactic(auto, unfolding(crate::specs::PredicateParsers::compared_at))]
-fn compared(
+fn compared<'a>(
     alloc: Global,
     left: ColumnName,
     op: Op,
-    tokens: &[Token],
-) -> Result<(TestWords, &[Token]), ParseFault>
-    ensures { Gives (λ x. (x.0, kinds_of x.1.now)) result (compared_at left op (kinds_of tokens.now)) }
+    tokens: &Tokens<'a>,
+) -> Result<(TestWords, Tokens<'a>), ParseFault>
+    ensures { Gives (λ x. x) result (compared_at left op tokens.now) }
 {
     match Literal::parse(alloc, tokens) {
         Ok((literal, rest)) => Ok((
@@ -56,11 +55,14 @@ fn compared(
 
 // Two literals with AND between them.
 #[tactic(auto, unfolding(crate::specs::PredicateParsers::bounds_at))]
-fn bounds(alloc: Global, tokens: &[Token]) -> Result<(Literal, Literal, &[Token]), ParseFault>
-    ensures { Gives (λ x. ((x.0, x.1), kinds_of x.2.now)) result (bounds_at (kinds_of tokens.now)) }
+fn bounds<'a>(
+    alloc: Global,
+    tokens: &Tokens<'a>,
+) -> Result<(Literal, Literal, Tokens<'a>), ParseFault>
+    ensures { Gives (λ x. ((x.0, x.1), x.2)) result (bounds_at tokens.now) }
 {
     let (low, rest) = Literal::parse(alloc, tokens)?;
-    let (high, rest) = Literal::parse(alloc, word("and", rest)?)?;
+    let (high, rest) = Literal::parse(alloc, &word("and", &rest)?)?;
     Ok((low, high, rest))
 }
 
@@ -70,9 +72,9 @@ fn worded<'a>(
     alloc: Global,
     column: ColumnName,
     word: &str,
-    tokens: &'a [Token],
-) -> Result<(TestWords, &'a [Token]), ParseFault>
-    ensures { Gives (λ x. (x.0, kinds_of x.1.now)) result (worded_at column word.now (kinds_of tokens.now)) }
+    tokens: &Tokens<'a>,
+) -> Result<(TestWords, Tokens<'a>), ParseFault>
+    ensures { Gives (λ x. x) result (worded_at column word.now tokens.now) }
 {
     match word {
         "between" => {
@@ -93,20 +95,20 @@ fn worded<'a>(
 
 // A test behind its column.
 #[tactic(auto, unfolding(crate::specs::PredicateParsers::tested_at))]
-fn tested(
+fn tested<'a>(
     alloc: Global,
     column: ColumnName,
-    tokens: &[Token],
-) -> Result<(TestWords, &[Token]), ParseFault>
-    ensures { Gives (λ x. (x.0, kinds_of x.1.now)) result (tested_at column (kinds_of tokens.now)) }
+    tokens: &Tokens<'a>,
+) -> Result<(TestWords, Tokens<'a>), ParseFault>
+    ensures { Gives (λ x. x) result (tested_at column tokens.now) }
 {
-    let [token, rest @ ..] = tokens else {
+    let Some((kind, rest)) = tokens.next(alloc)? else {
         return Err(ParseFault::Syntax);
     };
-    match &token.kind {
-        TokenKind::Name(word) => worded(alloc, column, word.as_str(), rest),
-        TokenKind::Symbol(mark) => match op_of(*mark) {
-            Some(op) => compared(alloc, column, op, rest),
+    match kind {
+        TokenKind::Name(word) => worded(alloc, column, word.as_str(), &rest),
+        TokenKind::Symbol(mark) => match op_of(mark) {
+            Some(op) => compared(alloc, column, op, &rest),
             None => Err(ParseFault::Syntax),
         },
         _ => Err(ParseFault::Syntax),
@@ -114,9 +116,12 @@ fn tested(
 }
 
 #[tactic(auto, unfolding(crate::specs::PredicateParsers::test_at))]
-pub(crate) fn test(alloc: Global, tokens: &[Token]) -> Result<(TestWords, &[Token]), ParseFault>
-    ensures { Gives (λ x. (x.0, kinds_of x.1.now)) result (test_at (kinds_of tokens.now)) }
+pub(crate) fn test<'a>(
+    alloc: Global,
+    tokens: &Tokens<'a>,
+) -> Result<(TestWords, Tokens<'a>), ParseFault>
+    ensures { Gives (λ x. x) result (test_at tokens.now) }
 {
     let (column, rest) = ColumnName::parse(alloc, tokens)?;
-    tested(alloc, column, rest)
+    tested(alloc, column, &rest)
 }

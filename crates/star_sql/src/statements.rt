@@ -1,6 +1,5 @@
 // The statements, by their first words.
 ghost use Rattle.star_sql.specs.declared.ast.Statement.TheVariants as statement;
-ghost use Rattle.star_sql.specs.ParseResult.{kinds_of};
 ghost use Rattle.star_sql.specs.Parsers.{Gives, made_of};
 ghost use Rattle.star_sql.specs.StatementParsers.{named_at, filed_at, create_at, insert_at, of_both, behind_word, statement_at};
 
@@ -10,7 +9,7 @@ use crate::sequences::{enclosed, listed};
 use crate::tokens_at::{key, kind, text, word};
 use crate::{ColumnDef, Literal, ParseFault, Statement};
 use blink_base::{List, Word};
-use star_lex::{Token, TokenKind};
+use star_lex::{TokenKind, Tokens};
 use std::alloc::Global;
 
 impl Parse for ColumnDef {
@@ -19,10 +18,13 @@ impl Parse for ColumnDef {
     ghost parses = { definition_at };
 
     #[tactic(auto, unfolding(crate::specs::StatementParsers::definition_at))]
-    fn parse(alloc: Global, tokens: &[Token]) -> Result<(ColumnDef, &[Token]), ParseFault> {
+    fn parse<'a>(
+        alloc: Global,
+        tokens: &Tokens<'a>,
+    ) -> Result<(ColumnDef, Tokens<'a>), ParseFault> {
         let (name, rest) = Word::parse(alloc, tokens)?;
-        let (kind, rest) = kind(rest)?;
-        let (key, rest) = key(rest)?;
+        let (kind, rest) = kind(alloc, &rest)?;
+        let (key, rest) = key(&rest)?;
         Ok((ColumnDef { name, kind, key }, rest))
     }
 }
@@ -31,11 +33,11 @@ impl Parse for ColumnDef {
 fn named<'a>(
     alloc: Global,
     first: &str,
-    tokens: &'a [Token],
-) -> Result<(Word, &'a [Token]), ParseFault>
-    ensures { Gives (λ x. (x.0, kinds_of x.1.now)) result (named_at first.now (kinds_of tokens.now)) }
+    tokens: &Tokens<'a>,
+) -> Result<(Word, Tokens<'a>), ParseFault>
+    ensures { Gives (λ x. x) result (named_at first.now tokens.now) }
 {
-    Word::parse(alloc, word(first, tokens)?)
+    Word::parse(alloc, &word(first, tokens)?)
 }
 
 #[tactic(auto, unfolding(crate::specs::StatementParsers::filed_at))]
@@ -43,30 +45,30 @@ fn filed<'a>(
     alloc: Global,
     first: &str,
     second: &str,
-    tokens: &'a [Token],
-) -> Result<(Word, Word, &'a [Token]), ParseFault>
-    ensures { Gives (λ x. ((x.0, x.1), kinds_of x.2.now)) result (filed_at first.now second.now (kinds_of tokens.now)) }
+    tokens: &Tokens<'a>,
+) -> Result<(Word, Word, Tokens<'a>), ParseFault>
+    ensures { Gives (λ x. ((x.0, x.1), x.2)) result (filed_at first.now second.now tokens.now) }
 {
     let (name, rest) = named(alloc, first, tokens)?;
-    let (file, rest) = text(alloc, word(second, rest)?)?;
+    let (file, rest) = text(alloc, &word(second, &rest)?)?;
     Ok((name, file, rest))
 }
 
 #[tactic(auto, unfolding(crate::specs::StatementParsers::create_at))]
-fn create(alloc: Global, tokens: &[Token]) -> Result<(Statement, &[Token]), ParseFault>
-    ensures { Gives (λ x. (x.0, kinds_of x.1.now)) result (made_of (of_both statement.Create) (create_at (kinds_of tokens.now))) }
+fn create<'a>(alloc: Global, tokens: &Tokens<'a>) -> Result<(Statement, Tokens<'a>), ParseFault>
+    ensures { Gives (λ x. x) result (made_of (of_both statement.Create) (create_at tokens.now)) }
 {
     let (name, rest) = named(alloc, "table", tokens)?;
-    let (columns, rest) = enclosed::<ColumnDef>(alloc, rest)?;
+    let (columns, rest) = enclosed::<ColumnDef>(alloc, &rest)?;
     Ok((Statement::Create { name, columns }, rest))
 }
 
 #[tactic(auto, unfolding(crate::specs::StatementParsers::insert_at))]
-fn insert(alloc: Global, tokens: &[Token]) -> Result<(Statement, &[Token]), ParseFault>
-    ensures { Gives (λ x. (x.0, kinds_of x.1.now)) result (made_of (of_both statement.Insert) (insert_at (kinds_of tokens.now))) }
+fn insert<'a>(alloc: Global, tokens: &Tokens<'a>) -> Result<(Statement, Tokens<'a>), ParseFault>
+    ensures { Gives (λ x. x) result (made_of (of_both statement.Insert) (insert_at tokens.now)) }
 {
     let (name, rest) = named(alloc, "into", tokens)?;
-    let (rows, rest) = listed::<List<Literal>>(alloc, word("values", rest)?)?;
+    let (rows, rest) = listed::<List<Literal>>(alloc, &word("values", &rest)?)?;
     Ok((Statement::Insert { name, rows }, rest))
 }
 
@@ -75,9 +77,9 @@ fn insert(alloc: Global, tokens: &[Token]) -> Result<(Statement, &[Token]), Pars
 fn behind_word<'a>(
     alloc: Global,
     verb: &str,
-    tokens: &'a [Token],
-) -> Result<(Statement, &'a [Token]), ParseFault>
-    ensures { Gives (λ x. (x.0, kinds_of x.1.now)) result (behind_word verb.now (kinds_of tokens.now)) }
+    tokens: &Tokens<'a>,
+) -> Result<(Statement, Tokens<'a>), ParseFault>
+    ensures { Gives (λ x. x) result (behind_word verb.now tokens.now) }
 {
     match verb {
         "create" => create(alloc, tokens),
@@ -107,7 +109,7 @@ fn behind_word<'a>(
             Ok((Statement::Describe { name }, rest))
         }
         "explain" => {
-            let (query, rest) = select(alloc, word("select", tokens)?)?;
+            let (query, rest) = select(alloc, &word("select", tokens)?)?;
             Ok((Statement::Explain(query), rest))
         }
         "export" => {
@@ -123,17 +125,17 @@ fn behind_word<'a>(
 }
 
 #[tactic(auto, unfolding(crate::specs::StatementParsers::statement_at))]
-pub(crate) fn statement(
+pub(crate) fn statement<'a>(
     alloc: Global,
-    tokens: &[Token],
-) -> Result<(Statement, &[Token]), ParseFault>
-    ensures { Gives (λ x. (x.0, kinds_of x.1.now)) result (statement_at (kinds_of tokens.now)) }
+    tokens: &Tokens<'a>,
+) -> Result<(Statement, Tokens<'a>), ParseFault>
+    ensures { Gives (λ x. x) result (statement_at tokens.now) }
 {
-    let [token, rest @ ..] = tokens else {
+    let Some((kind, rest)) = tokens.next(alloc)? else {
         return Err(ParseFault::Syntax);
     };
-    match &token.kind {
-        TokenKind::Name(verb) => behind_word(alloc, verb.as_str(), rest),
+    match kind {
+        TokenKind::Name(verb) => behind_word(alloc, verb.as_str(), &rest),
         _ => Err(ParseFault::Syntax),
     }
 }

@@ -1,62 +1,55 @@
 // What stands first in some tokens, and the tokens behind it: words, marks, names, texts and kinds.
 ghost use Rattle.std.specs.Prelude.{◌≡◌};
-ghost use Rattle.star_sql.specs.ParseResult.{kinds_of};
-ghost use Rattle.star_sql.specs.Parsers.{Finds, Gives, behind, is_word, is_mark, text_at, kind_at, key_at};
+ghost use Rattle.star_lex.specs.Kinds.{is_word, begins_with};
+ghost use Rattle.star_sql.specs.Parsers.{Finds, Gives, behind, is_mark, text_at, kind_at, key_at};
 
 use crate::ParseFault;
 use crate::parser::Parse;
 use crate::words::{is_name, kind_of_word};
 use blink_base::{Kind, Word};
-use star_lex::{Mark, Token, TokenKind};
+use star_lex::{Mark, TokenKind, Tokens};
 use std::alloc::Global;
 
-fn is_word(word: &str, kind: &TokenKind) -> bool
-    ensures { result ≡ is_word word.now kind.now }
+#[tactic(auto, using(crate::proofs::FrontLemmas::begun, crate::proofs::FrontLemmas::not_begun))]
+pub(crate) fn found_word<'a>(word: &str, tokens: &Tokens<'a>) -> Option<Tokens<'a>>
+    ensures { Finds (λ r. r) result (behind (is_word word.now) tokens.now) }
 {
-    match kind {
-        TokenKind::Name(name) => name.as_str() == word,
-        _ => false,
+    if tokens.is_word(word) {
+        Some(tokens.behind())
+    } else {
+        None
     }
 }
 
-#[tactic(auto, using(crate::proofs::TokenLemmas::equal_marks, crate::proofs::TokenLemmas::other_marks))]
-fn is_mark(mark: Mark, kind: &TokenKind) -> bool
-    ensures { result ≡ is_mark mark kind.now }
-{
-    match kind {
-        TokenKind::Symbol(found) => mark == *found,
-        _ => false,
-    }
-}
-
-#[tactic(auto, unfolding(crate::specs::Parsers::behind))]
-pub(crate) fn found_word<'a>(word: &str, tokens: &'a [Token]) -> Option<&'a [Token]>
-    ensures { Finds (λ r. kinds_of r.now) result (behind (is_word word.now) (kinds_of tokens.now)) }
-{
-    match tokens {
-        [token, rest @ ..] if is_word(word, &token.kind) => Some(rest),
-        _ => None,
-    }
-}
-
-pub(crate) fn word<'a>(word: &str, tokens: &'a [Token]) -> Result<&'a [Token], ParseFault>
-    ensures { Gives (λ r. kinds_of r.now) result (behind (is_word word.now) (kinds_of tokens.now)) }
+pub(crate) fn word<'a>(word: &str, tokens: &Tokens<'a>) -> Result<Tokens<'a>, ParseFault>
+    ensures { Gives (λ r. r) result (behind (is_word word.now) tokens.now) }
 {
     found_word(word, tokens).ok_or(ParseFault::Syntax)
 }
 
-#[tactic(auto, unfolding(crate::specs::Parsers::behind))]
-pub(crate) fn found_mark(mark: Mark, tokens: &[Token]) -> Option<&[Token]>
-    ensures { Finds (λ r. kinds_of r.now) result (behind (is_mark mark) (kinds_of tokens.now)) }
+// Whether this mark stands first.
+fn is_mark(mark: Mark, tokens: &Tokens<'_>) -> bool
+    ensures { result ≡ begins_with (is_mark mark) tokens.now }
 {
-    match tokens {
-        [token, rest @ ..] if is_mark(mark, &token.kind) => Some(rest),
-        _ => None,
+    match tokens.mark() {
+        Some(found) => mark == found,
+        None => false,
     }
 }
 
-pub(crate) fn mark(mark: Mark, tokens: &[Token]) -> Result<&[Token], ParseFault>
-    ensures { Gives (λ r. kinds_of r.now) result (behind (is_mark mark) (kinds_of tokens.now)) }
+#[tactic(auto, using(crate::proofs::FrontLemmas::begun, crate::proofs::FrontLemmas::not_begun))]
+pub(crate) fn found_mark<'a>(mark: Mark, tokens: &Tokens<'a>) -> Option<Tokens<'a>>
+    ensures { Finds (λ r. r) result (behind (is_mark mark) tokens.now) }
+{
+    if is_mark(mark, tokens) {
+        Some(tokens.behind())
+    } else {
+        None
+    }
+}
+
+pub(crate) fn mark<'a>(mark: Mark, tokens: &Tokens<'a>) -> Result<Tokens<'a>, ParseFault>
+    ensures { Gives (λ r. r) result (behind (is_mark mark) tokens.now) }
 {
     found_mark(mark, tokens).ok_or(ParseFault::Syntax)
 }
@@ -67,38 +60,44 @@ impl Parse for Word {
     ghost parses = { name_at };
 
     #[tactic(auto, unfolding(crate::specs::Parsers::name_at))]
-    fn parse(alloc: Global, tokens: &[Token]) -> Result<(Word, &[Token]), ParseFault> {
-        let [token, rest @ ..] = tokens else {
+    fn parse<'a>(alloc: Global, tokens: &Tokens<'a>) -> Result<(Word, Tokens<'a>), ParseFault> {
+        let Some((kind, rest)) = tokens.next(alloc)? else {
             return Err(ParseFault::Syntax);
         };
-        match &token.kind {
-            TokenKind::Name(word) if is_name(word.as_str()) => Ok((word.copy(alloc)?, rest)),
+        match kind {
+            TokenKind::Name(word) => {
+                if is_name(word.as_str()) {
+                    Ok((word, rest))
+                } else {
+                    Err(ParseFault::Syntax)
+                }
+            }
             _ => Err(ParseFault::Syntax),
         }
     }
 }
 
 #[tactic(auto, unfolding(crate::specs::Parsers::text_at))]
-pub(crate) fn text(alloc: Global, tokens: &[Token]) -> Result<(Word, &[Token]), ParseFault>
-    ensures { Gives (λ x. (x.0, kinds_of x.1.now)) result (text_at (kinds_of tokens.now)) }
+pub(crate) fn text<'a>(alloc: Global, tokens: &Tokens<'a>) -> Result<(Word, Tokens<'a>), ParseFault>
+    ensures { Gives (λ x. x) result (text_at tokens.now) }
 {
-    let [token, rest @ ..] = tokens else {
+    let Some((kind, rest)) = tokens.next(alloc)? else {
         return Err(ParseFault::Syntax);
     };
-    match &token.kind {
-        TokenKind::Text(word) => Ok((word.copy(alloc)?, rest)),
+    match kind {
+        TokenKind::Text(word) => Ok((word, rest)),
         _ => Err(ParseFault::Syntax),
     }
 }
 
 #[tactic(auto, unfolding(crate::specs::Parsers::kind_at))]
-pub(crate) fn kind(tokens: &[Token]) -> Result<(Kind, &[Token]), ParseFault>
-    ensures { Gives (λ x. (x.0, kinds_of x.1.now)) result (kind_at (kinds_of tokens.now)) }
+pub(crate) fn kind<'a>(alloc: Global, tokens: &Tokens<'a>) -> Result<(Kind, Tokens<'a>), ParseFault>
+    ensures { Gives (λ x. x) result (kind_at tokens.now) }
 {
-    let [token, rest @ ..] = tokens else {
+    let Some((kind, rest)) = tokens.next(alloc)? else {
         return Err(ParseFault::Syntax);
     };
-    match &token.kind {
+    match kind {
         TokenKind::Name(word) => match kind_of_word(word.as_str()) {
             Some(kind) => Ok((kind, rest)),
             None => Err(ParseFault::Syntax),
@@ -108,11 +107,11 @@ pub(crate) fn kind(tokens: &[Token]) -> Result<(Kind, &[Token]), ParseFault>
 }
 
 #[tactic(auto, unfolding(crate::specs::Parsers::key_at))]
-pub(crate) fn key(tokens: &[Token]) -> Result<(bool, &[Token]), ParseFault>
-    ensures { Gives (λ x. (x.0, kinds_of x.1.now)) result (key_at (kinds_of tokens.now)) }
+pub(crate) fn key<'a>(tokens: &Tokens<'a>) -> Result<(bool, Tokens<'a>), ParseFault>
+    ensures { Gives (λ x. x) result (key_at tokens.now) }
 {
     match found_word("primary", tokens) {
-        Some(rest) => Ok((true, word("key", rest)?)),
-        None => Ok((false, tokens)),
+        Some(rest) => Ok((true, word("key", &rest)?)),
+        None => Ok((false, tokens.copy())),
     }
 }

@@ -50,8 +50,8 @@ fn bound_item(scope: &[Entry], item: &Item) -> BoundItem
     match &item.what {
         What::Column(name) => BoundItem::Column(meant(scope, name)),
         What::Count => BoundItem::Count,
-        What::Sum(expr) => BoundItem::Sum(bound_expr(scope, expr)),
-        What::Avg(expr) => BoundItem::Average(bound_expr(scope, expr)),
+        What::Sum(expr) => BoundItem::Sum(bound_expr(scope, expr.get())),
+        What::Avg(expr) => BoundItem::Average(bound_expr(scope, expr.get())),
         What::Min(name) => BoundItem::Least(meant(scope, name)),
         What::Max(name) => BoundItem::Greatest(meant(scope, name)),
     }

@@ -190,7 +190,7 @@ fn is_wrong_item(scope: &[Entry], item: &Item) -> bool
     ensures { result ≡ is_wrong_item (scope_from scope.now) item.now.what }
 {
     match &item.what {
-        What::Sum(expr) | What::Avg(expr) => is_wrong_expr(scope, expr),
+        What::Sum(expr) | What::Avg(expr) => is_wrong_expr(scope, expr.get()),
         What::Column(_) | What::Count | What::Min(_) | What::Max(_) => false,
     }
 }

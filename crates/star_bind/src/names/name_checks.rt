@@ -42,7 +42,7 @@ fn add_item<'a>(what: &'a What, names: &mut Vec<&'a ColumnName>) -> Result<(), A
             Ok(())
         }
         What::Count => Ok(()),
-        What::Sum(e) | What::Avg(e) => add_expr(e, names),
+        What::Sum(e) | What::Avg(e) => add_expr(e.get(), names),
     }
 }
 

@@ -73,8 +73,8 @@ fn what_text(alloc: Global, what: &What) -> Result<Word, AllocError>
     match what {
         What::Column(name) => name_text(alloc, name),
         What::Count => Word::from_str(alloc, "count(*)"),
-        What::Sum(expr) => expr_call(alloc, "sum", expr),
-        What::Avg(expr) => expr_call(alloc, "avg", expr),
+        What::Sum(expr) => expr_call(alloc, "sum", expr.get()),
+        What::Avg(expr) => expr_call(alloc, "avg", expr.get()),
         What::Min(name) => column_call(alloc, "min", name),
         What::Max(name) => column_call(alloc, "max", name),
     }
