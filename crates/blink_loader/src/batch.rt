@@ -96,9 +96,7 @@ fn values_of(
     for (place, column) in columns.iter().enumerate() {
         let bytes = field_of(fields, place);
         let value = value_of(alloc, column.kind, at, place as u32 + 1, bytes)?;
-        let Ok(()) = values.push(value) else {
-            return Err(LoadFault::Memory);
-        };
+        values.push_reserved(value);
     }
     Ok(List::from_vec(values))
 }
@@ -115,11 +113,12 @@ fn row_of(alloc: Global, schema: &Schema, at: u64, fields: &ByteRecord) -> Resul
     values_of(alloc, schema.columns.as_slice(), at, fields)
 }
 
-// The rows of the records that are left, counted from 1.
+// The rows of the records that are left, counted from 1, each read into `record`.
 fn rows_of(
     alloc: Global,
     schema: &Schema,
     records: &mut Records<'_>,
+    record: &mut ByteRecord,
 ) -> Result<List<Row>, LoadFault>
     requires columns { length schema.now.columns < 2 ^ 32 }
     requires records { length records.old + 1 < 2 ^ 64 }
@@ -129,13 +128,13 @@ fn rows_of(
     let mut rows = List::new(alloc);
     let mut at = 1u64;
     loop {
-        let Ok(next) = records.next() else {
+        let Ok(found) = records.next(record) else {
             return Err(LoadFault::Memory);
         };
-        let Some(record) = next else {
+        if !found {
             return Ok(rows);
-        };
-        let row = row_of(alloc, schema, at, &record)?;
+        }
+        let row = row_of(alloc, schema, at, record)?;
         let Ok(()) = rows.push(row) else {
             return Err(LoadFault::Memory);
         };
@@ -154,16 +153,17 @@ fn batch_over(
     ensures rows { result ≢ Err LoadFault.Memory → result ≡ batch_over schema.now.columns records.old }
     ensures fit { IfOk result (λ rows. IsTrue (list_all (fits schema.now) rows)) }
 {
-    let Ok(first) = records.next() else {
+    let mut record = ByteRecord::new(alloc);
+    let Ok(found) = records.next(&mut record) else {
         return Err(LoadFault::Memory);
     };
-    let Some(header) = first else {
+    if !found {
         return Ok(List::new(alloc));
-    };
-    if !is_header(schema.columns.as_slice(), &header) {
+    }
+    if !is_header(schema.columns.as_slice(), &record) {
         return Err(LoadFault::Header);
     }
-    rows_of(alloc, schema, records)
+    rows_of(alloc, schema, records, &mut record)
 }
 
 /// The rows of a CSV text for a table of at most 4,294,967,295 columns.

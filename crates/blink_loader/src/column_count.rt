@@ -83,9 +83,10 @@ fn is_counted(column: usize, low: i64, high: i64, row: &ByteRecord) -> bool
     }
 }
 
-// The count over the records that are left below a header of this length.
+// The count over the records that are left below a header of this length, each read into `row`.
 fn count_below(
     rows: &mut Records<'_>,
+    row: &mut ByteRecord,
     width: usize,
     column: usize,
     low: i64,
@@ -98,38 +99,45 @@ fn count_below(
     let mut count = 0u64;
     let mut at = 0u64;
     loop {
-        let Ok(next) = rows.next() else {
+        let Ok(found) = rows.next(row) else {
             return Err(RangeFault::Memory);
         };
-        let Some(row) = next else {
+        if !found {
             return Ok(count);
-        };
+        }
         at += 1;
-        if let Some(fault) = record_fault(width, at, &row) {
+        if let Some(fault) = record_fault(width, at, row) {
             return Err(fault);
         }
-        if is_counted(column, low, high, &row) {
+        if is_counted(column, low, high, row) {
             count += 1;
         }
     }
 }
 
-// The count over the records that are left, the first of them the header.
-fn range_over(rows: &mut Records<'_>, column: &str, low: i64, high: i64) -> Result<u64, RangeFault>
+// The count over the records that are left, the first of them the header, each read into `row`.
+fn range_over(
+    rows: &mut Records<'_>,
+    row: &mut ByteRecord,
+    column: &str,
+    low: i64,
+    high: i64,
+) -> Result<u64, RangeFault>
     requires width { width_of rows.old < 2 ^ 32 }
     requires rows { length rows.old < 2 ^ 64 }
     ensures { result ≢ Err RangeFault.Memory → result ≡ told_range (range_over rows.old column.now low high) }
 {
-    let Ok(first) = rows.next() else {
+    let Ok(found) = rows.next(row) else {
         return Err(RangeFault::Memory);
     };
-    let Some(header) = first else {
+    if !found {
+        return Err(RangeFault::UnknownColumn);
+    }
+    let Some(at) = column_place(row, column) else {
         return Err(RangeFault::UnknownColumn);
     };
-    let Some(at) = column_place(&header, column) else {
-        return Err(RangeFault::UnknownColumn);
-    };
-    count_below(rows, header.len(), at, low, high)
+    let width = row.len();
+    count_below(rows, row, width, at, low, high)
 }
 
 /// How many records of a CSV text of at most 67,108,864 bytes have `low <= COLUMN <= high`, where every column is of whole
@@ -153,5 +161,6 @@ pub fn range_count(
     ensures { result ≢ Err RangeFault.Memory → result ≡ told_range (range_of bytes.now column.now low high) }
 {
     let mut rows = Records::new(alloc, bytes);
-    range_over(&mut rows, column, low, high)
+    let mut row = ByteRecord::new(alloc);
+    range_over(&mut rows, &mut row, column, low, high)
 }

@@ -1,16 +1,17 @@
 // The records of a CSV text, one behind the other.
-ghost use Rattle.std.specs.Prelude.{◌≡◌, ◌∷◌, [], IfOk, MatchOption, slice_index_or};
+ghost use Rattle.std.specs.Prelude.{◌≡◌, ◌∷◌, [], IfOk, slice_index_or};
+ghost use Rattle.std.specs.Bool.{MatchBool};
 ghost use Rattle.csv.specs.Records.{fields_of};
 ghost use Rattle.blink_loader.specs.Records.{records_of, same_name};
 
-use csv::{ByteRecord, ByteRecordsIntoIter, ReaderBuilder};
+use csv::{ByteRecord, Reader, ReaderBuilder};
 use std::alloc::{AllocError, Global};
 use std::marker::Model;
 
-// A reader of a text, which contracts see as the records that are left. It holds one record at a time.
+// A reader of a text, which contracts see as the records that are left.
 #[derive(Drop)]
 pub(crate) struct Records<'a> {
-    rows: ByteRecordsIntoIter<&'a [u8]>,
+    reader: Reader<&'a [u8]>,
     done: bool,
 }
 
@@ -20,9 +21,9 @@ impl<'a> Model for Records<'a> {
 
     ghost Value = { List (List (List ℕ)) };
 
-    ghost view = { λ r. records_left r.done r.rows };
+    ghost view = { λ r. records_left r.done r.reader };
 
-    ghost invariant = { λ r. IsReading r.done r.rows };
+    ghost invariant = { λ r. IsReading r.done r.reader };
 }
 
 impl<'a> Records<'a> {
@@ -34,29 +35,25 @@ impl<'a> Records<'a> {
             .flexible(true)
             .from_reader(alloc, text);
         Records {
-            rows: reader.into_byte_records(),
+            reader,
             done: false,
         }
     }
 
-    // Takes the next record, where one is left.
-    pub(crate) fn next(&mut self) -> Result<Option<ByteRecord>, AllocError>
-        ensures { IfOk result (λ next. MatchOption next (self.old ≡ []) (λ row. self.old ≡ fields_of row ∷ self.new)) }
+    // Reads the next record into `row`, in the place of what it held, and tells whether there was one. `row` keeps its
+    // memory, and takes more only where it has too little room.
+    pub(crate) fn next(&mut self, row: &mut ByteRecord) -> Result<bool, AllocError>
+        ensures { IfOk result (λ found. MatchBool found (self.old ≡ fields_of row.new ∷ self.new) (self.old ≡ [])) }
     {
         if self.done {
-            return Ok(None);
+            return Ok(false);
         }
-        match self.rows.next() {
-            Some(Ok(row)) => Ok(Some(row)),
-            Some(Err(_)) => {
-                self.done = true;
-                Err(AllocError)
-            }
-            None => {
-                self.done = true;
-                Ok(None)
-            }
-        }
+        let Ok(found) = self.reader.read_byte_record(row) else {
+            self.done = true;
+            return Err(AllocError);
+        };
+        self.done = !found;
+        Ok(found)
     }
 }
 

@@ -8,7 +8,7 @@ use Rattle.blink_loader.proofs.BatchLemmas.{value_read, value_refused, values_re
 use Rattle.blink_loader.proofs.batch.values_of.Goals as goal
 
 pub loop-place-init : goal.loop-place-init
-loop-place-init c = rw c.in-Ok.ensures.items (record { read = sym (behind_none _); long = refl; entries = all-zip-none (λ p. is_entry p.0.kind p.1) c.args.columns.now })
+loop-place-init c = rw c.in-Ok.ensures.items (record { read = sym (behind_none _); long = refl; room = c.in-Ok.ensures.exact; entries = all-zip-none (λ p. is_entry p.0.kind p.1) c.args.columns.now })
 
 pub returns-in_err-value-clause-row : goal.returns-in_err-value-clause-row
 returns-in_err-value-clause-row c =
@@ -23,9 +23,10 @@ loop-place-preserved c =
     c.loop-place.values.items c.in_ok-value.value c.loop-place-test.true c.requires.fields c.index-columns-place.is c.field_of-bytes.ensures (c.in_ok-value.ensures.value (λ same. cc)) in
     let long = c.loop-place.invariant.long in
     let within : length c.loop-place.values.items < length c.args.columns.now = omega arith in
-    rw c.in-Ok-push.ensures.items (record {
+    rw c.push_reserved.ensures.items (record {
       read = c.loop-place.invariant.read ∙ next;
       long = omega (arith, length-append c.loop-place.values.items (c.in_ok-value.value ∷ []));
+      room = c.push_reserved.ensures.capacity ∙ c.loop-place.invariant.room;
       entries = all-zip-push (λ p. is_entry p.0.kind p.1) c.args.columns.now c.loop-place.values.items c.index-columns-place.result c.in_ok-value.value within (rw long c.index-columns-place.is) c.loop-place.invariant.entries c.in_ok-value.ensures.entry;
     })
 

@@ -9,6 +9,6 @@ pub returns : goal.returns
 returns c =
     let low = to_z-of_z w64 c.args.low c.ranges.low in
     let high = to_z-of_z w64 c.args.high c.ranges.high in
-    let below = range_over_header c.args.rows.now (fields_of c.in-Some.header) c.next.new.self c.args.column.now c.args.low c.args.high c.in-Some-column_place.at
-    (rw c.in-Some.is at c.in-Ok.ensures) c.in-Some-column_place.ensures in
-    λ known. rw (c.len.ensures, low, high) at (c.count_below.ensures known) ∙ ap told_range (sym below)
+    let below = range_over_header c.args.rows.now (fields_of c.next.new.row) c.next.new.self c.args.column.now c.args.low c.args.high c.in-Some.at
+    (rw c.if-not-found.false at c.in-Ok.ensures) c.in-Some.ensures in
+    λ known. rw (c.len-width.ensures, low, high) at (c.count_below.ensures known) ∙ ap told_range (sym below)
