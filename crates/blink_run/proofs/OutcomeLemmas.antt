@@ -9,7 +9,8 @@ use Rattle.star_lex.specs.declared.token.LexFault.{LexFault}
 use Rattle.star_lex.specs.Lex.{lexed}
 use Rattle.star_lex.specs.Pieces.{piece_texts}
 use Rattle.star_sql.specs.Spelling.{Spelled}
-use Rattle.star_sql.specs.ParseResult.{kinds_of, is_deep, SpelledOnce}
+use Rattle.star_lex.specs.Kinds.{kinds_of}
+use Rattle.star_sql.specs.ParseResult.{is_deep, SpelledOnce}
 use Rattle.star_sql.specs.PieceStatement.{Said, Says, SaysKinds, SaysTokens, is_passed_over}
 use Rattle.star_engine.specs.State.{State}
 use Rattle.star_engine.specs.Step.{Outcome, step}

@@ -9,7 +9,7 @@ use Rattle.blink_loader.specs.declared.batch.LoadFault.TheVariants as load
 use Rattle.blink_loader.specs.Batch.{batch}
 use Rattle.star_sql.specs.declared.ast.Literal.{Literal}
 use Rattle.star_engine.specs.declared.batch.Source.{Source}
-use Rattle.star_engine.specs.declared.batch.Source.TheVariants.{Text, Written}
+use Rattle.star_engine.specs.declared.batch.Source.TheVariants.{Text, Taken, Written}
 use Rattle.star_engine.specs.InsertedRows.{written}
 use Rattle.star_sql.specs.WellFormed.{is_literal, some_and_all}
 
@@ -33,12 +33,14 @@ loaded bytes schema = rows_or_refusal (batch schema bytes)
 abbrev pub are_written : List (List Literal) → Bool
 are_written rows = some_and_all (some_and_all is_literal) rows
 
--- the batch of a source: the rows of a text, or those of an INSERT
+-- the batch of a source: the rows of a text, whether or not it is given up, or those of an INSERT
 abbrev pub batch_in : Source → Schema → Result (List Row) Refusal
 batch_in (Text bytes) schema = loaded bytes.now schema
+batch_in (Taken bytes) schema = loaded bytes.items schema
 batch_in (Written rows) schema = written schema rows.now
 
 -- written rows are those of a well formed INSERT
 abbrev pub IsGood : Source → Type 0
 IsGood (Text bytes) = Unit {0}
+IsGood (Taken bytes) = Unit {0}
 IsGood (Written rows) = IsTrue (are_written rows.now)

@@ -12,10 +12,11 @@ use blink_loader::load;
 use star_sql::Literal;
 use std::alloc::Global;
 
-// Where rows come from.
-#[derive(Clone, Copy)]
+// Where rows come from: a CSV text, one that is given up when its rows are read, or an INSERT.
+#[derive(Drop)]
 pub(crate) enum Source<'a> {
     Text(&'a [u8]),
+    Taken(Vec<u8>),
     Written(&'a List<List<Literal>>),
 }
 
@@ -41,6 +42,7 @@ pub(crate) fn rows_from(
 {
     match source {
         Source::Text(bytes) => loaded_rows(alloc, schema, bytes),
+        Source::Taken(bytes) => loaded_rows(alloc, schema, bytes.as_slice()),
         Source::Written(rows) => written_rows(alloc, schema, rows.as_slice()),
     }
 }

@@ -271,6 +271,27 @@ impl<M: Ledger> Engine<M> {
         self.add(alloc, name, Source::Text(bytes), Growth::Standing, decodes)
     }
 
+    /// Adds the rows of a CSV text to a table, and gives the text up when its rows are read, so that it doesn't stand in memory
+    /// beside their layout. With [`Growth::Anew`] it adds, refuses and answers as [`Engine::load`] does, and with
+    /// [`Growth::Standing`] as [`Engine::append`] does. After any error all is as it was. Source: ISO/IEC 9075 (INSERT, primary
+    /// keys) and RFC 4180; layouts, the limit and the order of refusals are this project's own.
+    pub fn add_text(
+        &mut self,
+        alloc: Global,
+        name: &Word,
+        bytes: Vec<u8>,
+        growth: Growth,
+        decodes: &mut Steps<M>,
+    ) -> Result<u64, EngineError>
+        requires { HasTables self.old }
+        ensures step { (tables : Tables) → IsEngineOf tables self.old → IsAddition result (added self.old.limits growth tables name.now (loaded bytes.items)) self.new }
+        ensures sound { HasTables self.new }
+        ensures limits { self.new.limits ≡ self.old.limits }
+        ensures kept { OnErr result (self.new ≡ self.old) }
+    {
+        self.add(alloc, name, Source::Taken(bytes), growth, decodes)
+    }
+
     /// Adds written rows to the standing layout of a table. INSERT. It answers the number of rows that were added.
     ///
     /// The name and the rows are those of a well formed statement. It is refused with [`Refusal::UnknownTable`] exactly where

@@ -1,9 +1,7 @@
 // The statements that add the rows of a file to a table.
-ghost use Rattle.std.specs.Prelude.{◌≡◌, ◌≢◌, true, false, Some, OnErr, IfOk, IfErr, is_some};
-ghost use Rattle.star_engine.specs.LoadedRows.{loaded};
-ghost use Rattle.star_engine.specs.State.{State, Tables, has_table};
-ghost use Rattle.star_engine.specs.Changes.{added};
-ghost use Rattle.star_engine.specs.EngineRepr.{HasTables, IsAddition, IsEngineOf};
+ghost use Rattle.std.specs.Prelude.{◌≡◌, ◌≢◌, true, false, Some, IfOk, IfErr, is_some};
+ghost use Rattle.star_engine.specs.State.{State, has_table};
+ghost use Rattle.star_engine.specs.EngineRepr.{HasTables, IsEngineOf};
 ghost use Rattle.star_engine.specs.Step.{fetched};
 ghost use Rattle.report_text.specs.Texts.{refusal_bytes};
 ghost use Rattle.blink_base.specs.declared.limits.TheConstants.{LONGEST_CSV};
@@ -13,29 +11,9 @@ ghost use Rattle.blink_run.specs.StatementOutput.{IsLine, IsReplyFrom, IsFetched
 use crate::output::{Output, Stop, addition, refused};
 use blink_base::{LONGEST_CSV, Refusal, Word};
 use blink_edge::{Found, Store, StoreError};
-use star_engine::{Engine, EngineError, Growth};
+use star_engine::{Engine, Growth};
 use std::alloc::Global;
 use word_pool::{Ledger, Steps};
-
-// Adds the rows of a CSV text to a table: LOAD lays all out anew, APPEND adds them to the standing layout.
-fn add_bytes<M: Ledger>(
-    alloc: Global,
-    engine: &mut Engine<M>,
-    name: &Word,
-    bytes: &[u8],
-    growth: Growth,
-    decodes: &mut Steps<M>,
-) -> Result<u64, EngineError>
-    requires { HasTables engine.old }
-    ensures step { (tables : Tables) → IsEngineOf tables engine.old → IsAddition result (added engine.old.limits growth tables name.now (loaded bytes.now)) engine.new }
-    ensures engine { StaysSound engine.old engine.new }
-    ensures kept { OnErr result (engine.new ≡ engine.old) }
-{
-    match growth {
-        Growth::Anew => engine.load(alloc, name, bytes, decodes),
-        Growth::Standing => engine.append(alloc, name, bytes, decodes),
-    }
-}
 
 // The bytes of a file, where there are no more than a CSV file may have.
 fn short_enough(bytes: Vec<u8>) -> Result<Vec<u8>, Refusal>
@@ -99,7 +77,7 @@ pub(crate) fn add_file<M: Ledger, S: Store>(
     }
     match fetch_csv(alloc, store, file.as_str())? {
         Ok(bytes) => {
-            let added = add_bytes(alloc, engine, name, bytes.as_slice(), growth, decodes);
+            let added = engine.add_text(alloc, name, bytes, growth, decodes);
             addition(alloc, &added)
         }
         Err(why) => refused(alloc, &why),

@@ -19,10 +19,10 @@ returns-in-Ok-clause-reply g c state of are =
     let found = got.found in
     let P : Tables → Type 0 = λ ts. IsEngineOf ts c.args.engine.now in
     let here : IsEngineOf found.tables c.args.engine.now = subst P (sym (finds_tables (is_some told_files) state found got.finds)) of in
-    let step = rw c.as_slice.ensures.value at (c.add_bytes-added.ensures.step found.tables here) in
-    reply_found limits told_files (is_some told_files) state found (loads c.args.growth name file) c.addition.result c.add_bytes-added.new.engine
-    (reply_addition limits found (loads c.args.growth name file) (added limits c.args.growth found.tables name (loaded bytes)) c.add_bytes-added.result c.addition.result c.args.engine.now c.add_bytes-added.new.engine
-    (file_rows limits found c.args.growth name file bytes got.bytes) c.addition.ensures step c.add_bytes-added.ensures.kept here)
+    let step = c.add_text-added.ensures.step found.tables here in
+    reply_found limits told_files (is_some told_files) state found (loads c.args.growth name file) c.addition.result c.add_text-added.new.self
+    (reply_addition limits found (loads c.args.growth name file) (added limits c.args.growth found.tables name (loaded bytes)) c.add_text-added.result c.addition.result c.args.engine.now c.add_text-added.new.self
+    (file_rows limits found c.args.growth name file bytes got.bytes) c.addition.ensures step c.add_text-added.ensures.kept here)
     got.finds got.files
 
 pub returns-in-Err-clause-reply : goal.returns-in-Err-clause-reply
