@@ -1,9 +1,11 @@
 -- A value counted once more among the entries of a hash table.
-use Rattle.std.proofs.Common.{◌≡◌, ◌≤◌, ◌<◌, ℕ, zero, suc, ◌+◌, Bool, true, false, List, [], ◌∷◌, ◌++◌, length, slice_get, position, Some, None, refl, sym, ap, ◌∙◌, arith, true≢false, is_some, unwrap_or, subst}
+use Rattle.std.proofs.Common.{◌≡◌, ◌≤◌, ◌<◌, ℕ, zero, suc, ◌+◌, Bool, true, false, List, [], ◌∷◌, ◌++◌, length, slice_get, get_or, position, Some, None, refl, sym, ap, ◌∙◌, arith, true≢false, is_some, unwrap_or, subst}
 use Rattle.std.specs.Map.{keys_of, values_of}
 use Rattle.std.proofs.lemmas.List.Sums.{sum_by-cons}
 use Rattle.indexmap.specs.IndexMap.{set_value_at, insert_entry}
-use Rattle.indexmap.proofs.MapLemmas.{Found-position, Missing-position, insert_entry-first}
+use Rattle.indexmap.proofs.MapLemmas.{Found-position, Missing-position, insert_entry-first, index-first}
+use Rattle.indexmap.proofs.RemoveLemmas.{own_first}
+use Rattle.std.specs.List.{IsDistinct}
 use Rattle.blink_base.specs.declared.value.Value.{Value}
 use Rattle.blink_base.specs.Values.{same_value}
 use Rattle.blink_base.specs.ValueHash.{one_value, value_equiv}
@@ -11,6 +13,10 @@ use Rattle.blink_histogram.specs.Ranks.{Counted, counted}
 use Rattle.blink_histogram.specs.InternerRepr.{number_of, numbered_values, counting_by, counting}
 use Rattle.blink_histogram.proofs.CountLemmas.{counted-raising}
 use Rattle.std.specs.Map.{lookup}
+use Rattle.blink_base.specs.declared.value.Value.TheVariants.{Int}
+use Rattle.blink_histogram.specs.InternerRepr.{IsInterner}
+use Rattle.blink_histogram.specs.Recent.{AreSeen}
+use Rattle.blink_histogram.specs.declared.recent.Seen.{Seen}
 
 none-some : {A : Type 0} {x : A} → None ≡ Some x → ⊥
 none-some e = true≢false (sym (ap is_some e))
@@ -59,7 +65,7 @@ counting-longer (e ∷ es) v = by (same_value v e.0) refl (counting-longer es v)
     by false k rest = rw (counting, counting_by, k) (omega arith)
 
 -- no more values than were numbered
-pub kept-counting : (es : List Counted) (v : Value) → numbered_values es < 4294967296 → length es ≤ numbered_values es
+kept-counting : (es : List Counted) (v : Value) → numbered_values es < 4294967296 → length es ≤ numbered_values es
     → (length (counting es v) ≤ numbered_values (counting es v)) × (numbered_values (counting es v) ≤ 4294967296)
 kept-counting es v few h =
     let longer = counting-longer es v in
@@ -102,3 +108,51 @@ old_place es v i at = (Found-position (same_value v) es i at).or_len
 -- the number of a new value is the next one
 pub new_place : (es : List Counted) (v : Value) → position (same_value v) (keys_of es) ≡ None → number_of es v ≡ length es
 new_place es v at = (Missing-position (same_value v) es at).or_len
+
+-- an entry by its key's place
+entry_at : (es : List Counted) (n : ℕ) (v : Value) → slice_get (keys_of es) n ≡ Some v → (c : ℕ) × (slice_get es n ≡ Some (v, c))
+entry_at [] n v h = absurd (none-some h)
+entry_at (e ∷ es) zero v h = (e.1, ap (λ k. Some (k, e.1)) (some-one h))
+entry_at (e ∷ es) (suc n) v h = entry_at es n v h
+
+-- a value's place among distinct ones is the first where it stands
+pub own_place : (es : List Counted) (v : Value) (n : ℕ) → IsDistinct same_value (keys_of es) → slice_get (keys_of es) n ≡ Some v → position (same_value v) (keys_of es) ≡ Some n
+own_place es v n apart at = let entry = entry_at es n v at in index-first (same_value v) es n (own_first same_value value_equiv es n v entry.0 apart entry.1)
+
+-- a value stands where it stood, once another or itself is counted
+still_there : (es : List Counted) (v : Value) (n : ℕ) (x : Value) → slice_get (keys_of es) n ≡ Some x → slice_get (keys_of (counting es v)) n ≡ Some x
+still_there [] v n x = λ h. absurd (none-some h)
+still_there (e ∷ es) v n x = by (same_value v e.0) refl n (still_there es v)
+  where
+    by : (b : Bool) → same_value v e.0 ≡ b → (n : ℕ) → ((n : ℕ) (x : Value) → slice_get (keys_of es) n ≡ Some x → slice_get (keys_of (counting es v)) n ≡ Some x)
+        → slice_get (keys_of (e ∷ es)) n ≡ Some x → slice_get (keys_of (counting (e ∷ es) v)) n ≡ Some x
+    by true k n rest h = rw (counting, counting_by, k) h
+    by false k zero rest h = rw (counting, counting_by, k) h
+    by false k (suc n) rest h = rw (counting, counting_by, k) (rest n x h)
+
+-- so what was seen stays true
+seen-counting : (es : List Counted) (v : Value) (recent : List Seen) → AreSeen (keys_of es) recent → AreSeen (keys_of (counting es v)) recent
+seen-counting es v recent seen k d lt place is = still_there es v place (Int (get_or recent k d).number) (seen k d lt place is)
+
+-- what an interner keeps, with a value counted once more
+pub kept-interner : (es : List Counted) (v : Value) (n : ℕ) (recent more : List Seen) → IsInterner es recent → numbered_values es < 4294967296 → IsDistinct same_value (keys_of (counting es v))
+    → slice_get (keys_of (counting es v)) n ≡ Some v
+    → ((keys : List Value) → AreSeen keys recent → slice_get keys n ≡ Some v → AreSeen keys more) → IsInterner (counting es v) more
+kept-interner es v n recent more is few apart there seen =
+    let kept = kept-counting es v few is.fewer in
+    record {
+      apart = apart;
+      fewer = kept.0;
+      few = kept.1;
+      seen = seen (keys_of (counting es v)) (seen-counting es v recent is.seen) there;
+    }
+
+-- a count that is written leaves the values
+keys_set : (es : List Counted) (i c : ℕ) → keys_of (set_value_at es i c) ≡ keys_of es
+keys_set [] i c = refl
+keys_set (e ∷ es) zero c = refl
+keys_set (e ∷ es) (suc i) c = ap (λ l. e.0 ∷ l) (keys_set es i c)
+
+-- none twice, once a value that stands is counted
+pub apart-counting : (es : List Counted) (v : Value) (i c : ℕ) → IsDistinct same_value (keys_of es) → set_value_at es i c ≡ counting es v → IsDistinct same_value (keys_of (counting es v))
+apart-counting es v i c apart is = subst (IsDistinct same_value) (sym (keys_set es i c) ∙ ap keys_of is) apart

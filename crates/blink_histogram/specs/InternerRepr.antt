@@ -1,10 +1,12 @@
 -- What an interner keeps: values with their counts, in the order of first sight. Source: this project's own.
-use Rattle.std.specs.Prelude.{ℕ, ◌+◌, Bool, true, false, List, [], ◌∷◌, sum_by}
+use Rattle.std.specs.Prelude.{ℕ, ◌+◌, ◌≤◌, length, Bool, true, false, List, [], ◌∷◌, sum_by}
 use Rattle.std.specs.Map.{keys_of}
-use Rattle.std.specs.List.{position_or_len}
+use Rattle.std.specs.List.{position_or_len, IsDistinct}
 use Rattle.blink_base.specs.declared.value.Value.{Value}
 use Rattle.blink_base.specs.Values.{same_value}
 use Rattle.blink_histogram.specs.Ranks.{Counted}
+use Rattle.blink_histogram.specs.Recent.{AreSeen}
+use Rattle.blink_histogram.specs.declared.recent.Seen.{Seen}
 
 -- how many values were numbered, each as often as it came
 abbrev pub numbered_values : List Counted → ℕ
@@ -22,3 +24,11 @@ counting_by eq (c ∷ counts) v = elim (eq v c.0) [ true ↦ (c.0, c.1 + 1) ∷ 
 -- with a value counted once more
 abbrev pub counting : List Counted → Value → List Counted
 counting counts v = counting_by same_value counts v
+
+-- what an interner keeps: no value twice, no more values than were numbered, and the whole numbers that were seen last stand
+-- where they were seen
+pub record IsInterner (counts : List Counted) (recent : List Seen) : Type 0 where
+  pub apart : IsDistinct same_value (keys_of counts)
+  pub fewer : length counts ≤ numbered_values counts
+  pub few : numbered_values counts ≤ 4294967296
+  pub seen : AreSeen (keys_of counts) recent

@@ -2,3 +2,4 @@ pub mod Examples
 pub mod InternerRepr
 pub mod RankEntry
 pub mod Ranks
+pub mod Recent

@@ -1,11 +1,13 @@
 // Values by number, and how often each came.
-ghost use Rattle.std.specs.Prelude.{◌≡◌, ◌<◌, ◌≤◌, ◌+◌, ◌++◌, [], ◌∷◌, List as Listed, length, slice_get, map, Some, option_map, IfOk, OnOk, OnErr};
+ghost use Rattle.std.specs.Prelude.{◌≡◌, ◌<◌, ◌≤◌, ◌+◌, ◌++◌, [], ◌∷◌, List as Listed, length, slice_get, map, Some, option_map, IfOk, OnOk, OnErr, ℕ, position};
 ghost use Rattle.blink_base.specs.declared.value.Value.{Value as Kept};
 ghost use Rattle.std.specs.Map.{keys_of, values_of};
+ghost use Rattle.blink_base.specs.Values.{same_value};
 ghost use Rattle.blink_histogram.specs.Ranks.{counted};
-ghost use Rattle.blink_histogram.specs.InternerRepr.{number_of, numbered_values};
+ghost use Rattle.blink_histogram.specs.InternerRepr.{number_of, numbered_values, IsInterner};
 
 use crate::digest::{Digest, KeyedHasher};
+use crate::recent::Recent;
 use blink_base::Value;
 use indexmap::IndexMap;
 use std::alloc::{AllocError, Global};
@@ -18,18 +20,20 @@ use std::marker::Model;
 pub struct Interner {
     alloc: Global,
     counts: IndexMap<Value, u64, KeyedHasher>,
+    // Whole numbers among the values, each with its number.
+    recent: Recent,
 }
 
 impl Model for Interner {
-    ghost use Rattle.std.specs.Prelude.{List, ◌≤◌, length};
+    ghost use Rattle.std.specs.Prelude.{List};
     ghost use Rattle.blink_histogram.specs.Ranks.{Counted};
-    ghost use Rattle.blink_histogram.specs.InternerRepr.{numbered_values};
+    ghost use Rattle.blink_histogram.specs.InternerRepr.{IsInterner};
 
     ghost Value = { List Counted };
 
     ghost view = { λ it. it.counts.entries };
 
-    ghost invariant = { λ it. (length it.counts.entries ≤ numbered_values it.counts.entries) × (numbered_values it.counts.entries ≤ 4294967296) };
+    ghost invariant = { λ it. IsInterner it.counts.entries it.recent.seen.items };
 }
 
 impl Interner {
@@ -48,6 +52,7 @@ impl Interner {
         Interner {
             alloc,
             counts: IndexMap::with_hasher(alloc, KeyedHasher::new(values.number())),
+            recent: Recent::new(alloc),
         }
     }
 
@@ -64,26 +69,37 @@ impl Interner {
         ensures counted { OnOk result ((column : Listed Kept) → self.old ≡ counted column → self.new ≡ counted (column ++ value.now ∷ [])) }
         ensures err { OnErr result (self.new ≡ self.old) }
     {
-        match self.counts.get_index_of(value) {
+        match place(&self.counts, &self.recent, value) {
             Some(at) => {
-                self.counts[at] += 1;
-                Ok(at as u32)
+                self.counts[at as usize] += 1;
+                self.recent.keep(value, at);
+                Ok(at)
             }
             None => {
                 let key = value.copy(self.alloc)?;
                 let number = self.counts.len() as u32;
+                self.recent.make_room()?;
                 self.counts.insert(key, 1)?;
+                self.recent.keep(value, number);
                 Ok(number)
             }
         }
     }
 
-    // How many distinct values came.
-    pub(crate) fn len(&self) -> usize
+    /// How many distinct values came, at most 4,294,967,296. It takes no memory.
+    pub fn len(&self) -> usize
         ensures length { result ≡ length self.now }
         ensures numbers { result ≤ 4294967296 }
     {
         self.counts.len()
+    }
+
+    /// The number of a value, where it came; None where it didn't. It takes no memory.
+    pub fn find(&self, value: &Value) -> Option<u32>
+        ensures number { result ≡ position (same_value value.now) (keys_of self.now) }
+        ensures there { (n : ℕ) → slice_get (keys_of self.now) n ≡ Some value.now → result ≡ Some n }
+    {
+        place(&self.counts, &self.recent, value)
     }
 
     /// The value of a number. It takes no memory.
@@ -106,5 +122,19 @@ impl Interner {
             Some((_, count)) => *count,
             None => unreachable!(),
         }
+    }
+}
+
+// The number of a value, where it came: by the whole numbers that were seen last, else by its hash.
+fn place(counts: &IndexMap<Value, u64, KeyedHasher>, recent: &Recent, value: &Value) -> Option<u32>
+    requires { IsInterner counts.now.entries recent.now.seen.items }
+    ensures { result ≡ position (same_value value.now) (keys_of counts.now.entries) }
+{
+    match recent.find(value) {
+        Some(at) => Some(at),
+        None => match counts.get_index_of(value) {
+            Some(at) => Some(at as u32),
+            None => None,
+        },
     }
 }

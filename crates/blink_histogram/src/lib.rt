@@ -5,6 +5,7 @@ mod digest;
 pub mod examples;
 mod interner;
 mod ranks;
+mod recent;
 
 pub use digest::Digest;
 pub use interner::Interner;
