@@ -12,7 +12,7 @@ use Rattle.blink_lists.specs.Lists.{rises}
 use Rattle.blink_lists.proofs.OrderLemmas.{less_is}
 use Rattle.cell_layout.specs.declared.cell.Cell.{Cell}
 use Rattle.cell_layout.specs.Layout.{cell_cmp}
-use Rattle.cell_layout.specs.CellIndex.{keys_of_cells, key_at, IsCellIndex}
+use Rattle.cell_layout.specs.CellIndex.{keys_of_cells, key_at, IsFound, IsCellIndex}
 use Rattle.cell_layout.specs.InsertRow.{Above, Rising}
 use Rattle.cell_layout.proofs.InsertRowLemmas.{turned, Above-below}
 
@@ -47,6 +47,10 @@ empty_cell = record { classes = []; plan = []; codes = []; rows = 0 }
 module _ (cells : List Cell) where
   pub key-here : (k : ℕ) (d : Cell) → k < length cells → (get_or cells k d).classes ≡ key_at cells k
   key-here k d lt = sym (get_or-map (λ (cell : Cell). cell.classes) cells k d [] lt)
+
+  -- what a look at one place finds
+  pub found_here : (at : ℕ) (d : Cell) (front classes : List ℕ) → at < length cells → front ≡ (get_or cells at d).classes → front ≡ classes → IsFound cells classes at
+  found_here at d front classes within seen same = record { within = within; here = sym (key-here at d within) ∙ sym seen ∙ same }
 
   searchable : (classes : List ℕ) → rises cell_cmp (keys_of_cells cells) ≡ true → IsNonDecreasingBy (λ (cell : Cell). ordering_index (cell_cmp cell.classes classes)) cells
   searchable classes up = searchable_from_sorted nat_list_cmp_total (λ (cell : Cell). cell.classes) cells classes (λ k d low lt.

@@ -1,14 +1,16 @@
 -- Rows as class numbers and codes, and back.
-use Rattle.std.proofs.Common.{◌≡◌, ◌<◌, ℕ, zero, suc, Bool, true, ◌&&◌, ◌==◌, List, [], ◌∷◌, Option, Some, None, map, length, nat_lt, refl, sym, ap, true≢false, arith}
+use Rattle.std.proofs.Common.{◌≡◌, ◌<◌, ℕ, zero, suc, Bool, true, ◌&&◌, ◌==◌, List, [], ◌∷◌, Option, Some, None, map, length, nat_lt, IfSome, refl, sym, ap, ◌∙◌, true≢false, arith}
 use Rattle.std.specs.List.{list_all, zip, filter_map}
+use Rattle.std.specs.Map.{lookup}
 use Rattle.std.specs.Option.{is_some}
 use Rattle.std.proofs.lemmas.Bool.{and_parts, and_from, lt-ltb, eq-eqb, eqb-true}
 use Rattle.std.proofs.lemmas.Option.{slice_get_within}
 use Rattle.blink_base.specs.declared.value.Value.{Value}
-use Rattle.blink_base.specs.Values.{Row}
+use Rattle.blink_base.specs.Values.{Row, same_value}
 use Rattle.order_codes.specs.declared.place.CodePlace.{CodePlace}
 use Rattle.order_codes.specs.Dictionary.{Classes, are_classes, class_at, place_of_value}
 use Rattle.order_codes.specs.Codes.{DecodesFound}
+use Rattle.column_classes.specs.CodeTable.{IsTableOf}
 use Rattle.cell_layout.specs.Image.{CodedRow, places_of, is_coded, coded, decoded_row}
 use Rattle.cell_layout.specs.Valid.{are_codes}
 
@@ -33,13 +35,25 @@ class_within [] k code lt = absurd (omega (arith, lt))
 class_within (xs ∷ rest) zero code lt = omega arith
 class_within (xs ∷ rest) (suc k) code lt = let more = class_within rest k code lt in omega (arith, more)
 
+-- a place that is found is one of the classes' and of their codes
+place-within : DecodesFound → (classes : Classes) (v : Value) (place : CodePlace) → place_of_value classes v ≡ Some place → are_classes classes ≡ true
+    → (place.class < length classes) × (place.code < length (class_at classes place.class))
+place-within decodes classes v place found valid =
+    let below = slice_get_within (class_at classes place.class) place.code v (decodes classes v place found valid) in
+    (class_within classes place.class place.code below, below)
+
+-- the same of what a table finds
+pub table_within : DecodesFound → (classes : Classes) (v : Value) (table : List (Value × CodePlace)) (o : Option CodePlace) → o ≡ lookup (same_value v) table → IsTableOf classes table → are_classes classes ≡ true
+    → IfSome o (λ place. (place.class < length classes) × (place.code < length (class_at classes place.class)))
+table_within decodes classes v table None found is valid = tt
+table_within decodes classes v table (Some place) found is valid = place-within decodes classes v place (sym (is v) ∙ sym found) valid
+
 -- with one column more
 one_more : DecodesFound → (column : Classes) (columns : List Classes) (v : Value) (row : Row) (place : CodePlace) (r : CodedRow) → place_of_value column v ≡ Some place → are_classes column ≡ true → IsBack columns row r
     → IsBack (column ∷ columns) (v ∷ row) (record { classes = place.class ∷ r.classes; codes = place.code ∷ r.codes })
 one_more decodes column columns v row place r found valid rest =
     let is = decodes column v place found valid in
-    let below = slice_get_within (class_at column place.class) place.code v is in
-    let low : (place.class < length column) × (place.code < length (class_at column place.class)) = (class_within column place.class place.code below, below) in
+    let low = place-within decodes column v place found valid in
     record {
       back = rw (is, rest.back) refl;
       as_many = ap suc rest.as_many;

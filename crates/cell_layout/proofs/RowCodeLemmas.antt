@@ -3,7 +3,7 @@ use Rattle.std.proofs.Common.{◌≡◌, ◌≤◌, ◌<◌, ℕ, zero, suc, ◌
 use Rattle.std.specs.List.{list_all}
 use Rattle.std.proofs.Math.Seq.{get_or-append_seam}
 use Rattle.std.proofs.lemmas.Bool.{cases_lt}
-use Rattle.std.proofs.lemmas.List.{take_more, take_all, map-append, get_or_default, get_or_append_left, length-append}
+use Rattle.std.proofs.lemmas.List.{take_more, take_all, map-append, get_or_append_left, length-append}
 use Rattle.std.proofs.lemmas.List.Elements.{filter_map-append}
 use Rattle.std.proofs.lemmas.List.Folds.{list_all-append, list_all_at}
 use Rattle.blink_base.specs.declared.value.Value.{Value}
@@ -34,27 +34,26 @@ places-at (c ∷ columns) (w ∷ row) (suc k) values v e lt = places-at columns 
 
 module _ (columns : List Classes) (row : Row) (k : ℕ) (full : length row ≡ length columns) where
   -- the place of one more value, as calls say it
-  pub place_here : (values : Classes) (v : Value) (o : Option CodePlace) → k < length columns → values ≡ get_or columns k values → v ≡ get_or row k v → o ≡ place_of_value values v
-      → get_or (places_of columns row) k None ≡ o
-  place_here values v o lt is at found = places-at columns row k values v full lt ∙ sym (λ i. place_of_value (is i) (at i)) ∙ sym found
+  pub place_here : (v : Value) (o : Option CodePlace) → k < length columns → v ≡ get_or row k v → o ≡ place_of_value (get_or columns k []) v → get_or (places_of columns row) k None ≡ o
+  place_here v o lt at found = places-at columns row k [] v full lt ∙ ap (place_of_value (get_or columns k [])) (sym at) ∙ sym found
 
   more : (o : Option CodePlace) → k < length columns → get_or (places_of columns row) k None ≡ o → take (k + 1) (places_of columns row) ≡ take k (places_of columns row) ++ o ∷ []
   more o lt here =
       let within : k < length (places_of columns row) = rw (length-places columns row full) lt in
       take_more (places_of columns row) k None within ∙ ap (λ o. take k (places_of columns row) ++ o ∷ []) here
 
-  pub classes_more : (p : CodePlace) (so_far : List ℕ) → k < length columns → get_or (places_of columns row) k None ≡ Some p → so_far ≡ classes_in (take k (places_of columns row))
-      → so_far ++ p.class ∷ [] ≡ classes_in (take (k + 1) (places_of columns row))
-  classes_more p so_far lt here front =
-      ap (λ l. l ++ p.class ∷ []) front
+  pub classes_more : (p : CodePlace) (so_far next : List ℕ) → k < length columns → get_or (places_of columns row) k None ≡ Some p → so_far ≡ classes_in (take k (places_of columns row))
+      → next ≡ so_far ++ p.class ∷ [] → next ≡ classes_in (take (k + 1) (places_of columns row))
+  classes_more p so_far next lt here front pushed =
+      pushed ∙ ap (λ l. l ++ p.class ∷ []) front
       ∙ sym (map-append (λ (q : CodePlace). q.class) (filter_map (λ (o : Option CodePlace). o) (take k (places_of columns row))) (p ∷ []))
       ∙ ap (map (λ (q : CodePlace). q.class)) (sym (filter_map-append (λ (o : Option CodePlace). o) (take k (places_of columns row)) (Some p ∷ [])))
       ∙ ap classes_in (sym (more (Some p) lt here))
 
-  pub codes_more : (p : CodePlace) (so_far : List ℕ) → k < length columns → get_or (places_of columns row) k None ≡ Some p → so_far ≡ codes_in (take k (places_of columns row))
-      → so_far ++ p.code ∷ [] ≡ codes_in (take (k + 1) (places_of columns row))
-  codes_more p so_far lt here front =
-      ap (λ l. l ++ p.code ∷ []) front
+  pub codes_more : (p : CodePlace) (so_far next : List ℕ) → k < length columns → get_or (places_of columns row) k None ≡ Some p → so_far ≡ codes_in (take k (places_of columns row))
+      → next ≡ so_far ++ p.code ∷ [] → next ≡ codes_in (take (k + 1) (places_of columns row))
+  codes_more p so_far next lt here front pushed =
+      pushed ∙ ap (λ l. l ++ p.code ∷ []) front
       ∙ sym (map-append (λ (q : CodePlace). q.code) (filter_map (λ (o : Option CodePlace). o) (take k (places_of columns row))) (p ∷ []))
       ∙ ap (map (λ (q : CodePlace). q.code)) (sym (filter_map-append (λ (o : Option CodePlace). o) (take k (places_of columns row)) (Some p ∷ [])))
       ∙ ap codes_in (sym (more (Some p) lt here))
@@ -72,18 +71,15 @@ module _ (columns : List Classes) (row : Row) (k : ℕ) (full : length row ≡ l
   taken_all le = take_all k (places_of columns row) (rw (length-places columns row full) le)
 
 -- one more class number and code
-pub within_more : (columns : List Classes) (classes codes : List ℕ) (n : ℕ) (p : CodePlace) (values : Classes) → AreWithin columns classes codes n → n < length columns → values ≡ get_or columns n values
-    → (p.class < length values) × (p.code < length (class_at values p.class)) → AreWithin columns (classes ++ p.class ∷ []) (codes ++ p.code ∷ []) (n + 1)
-within_more columns classes codes n p values w lt is fits = record {
+pub within_more : (columns : List Classes) (classes codes : List ℕ) (n : ℕ) (p : CodePlace) → AreWithin columns classes codes n → n < length columns
+    → (p.class < length (get_or columns n [])) × (p.code < length (class_at (get_or columns n []) p.class)) → AreWithin columns (classes ++ p.class ∷ []) (codes ++ p.code ∷ []) (n + 1)
+within_more columns classes codes n p w lt fits = record {
   class_count = length-append classes (p.class ∷ []) ∙ ap (λ m. m + 1) w.class_count;
   code_count = length-append codes (p.code ∷ []) ∙ ap (λ m. m + 1) w.code_count;
   numbers = λ k le. numbers k (cases_lt k n) le;
   below = λ k le. below k (cases_lt k n) le;
 }
   where
-    one : values ≡ get_or columns n []
-    one = is ∙ get_or_default columns n values [] lt
-
     last : (xs : List ℕ) (y : ℕ) → length xs ≡ n → get_or (xs ++ y ∷ []) n 0 ≡ y
     last xs y e = ap (λ i. get_or (xs ++ y ∷ []) i 0) (sym e) ∙ get_or-append_seam xs y [] 0
 
@@ -94,13 +90,13 @@ within_more columns classes codes n p values w lt is fits = record {
     numbers k (inl less) le = rw (front classes p.class k w.class_count less) (w.numbers k less)
     numbers k (inr more) le =
         let same : k ≡ n = omega arith in
-        rw (same, last classes p.class w.class_count, ← one) fits.0
+        rw (same, last classes p.class w.class_count) fits.0
 
     below : (k : ℕ) → (k < n) ⊎ (n ≤ k) → k < n + 1 → get_or (codes ++ p.code ∷ []) k 0 < length (class_at (get_or columns k []) (get_or (classes ++ p.class ∷ []) k 0))
     below k (inl less) le = rw (front classes p.class k w.class_count less, front codes p.code k w.code_count less) (w.below k less)
     below k (inr more) le =
         let same : k ≡ n = omega arith in
-        rw (same, last classes p.class w.class_count, last codes p.code w.code_count, ← one) fits.1
+        rw (same, last classes p.class w.class_count, last codes p.code w.code_count) fits.1
 
 pub within_all : (columns : List Classes) (classes codes : List ℕ) (n : ℕ) → AreWithin columns classes codes n → length columns ≤ n → n ≤ length columns → AreWithin columns classes codes (length columns)
 within_all columns classes codes n w le ge = let same : n ≡ length columns = omega arith in subst (AreWithin columns classes codes) same w

@@ -73,11 +73,11 @@ rest_placed columns rows cells rest more row placed uncoded pushed =
     }
 
 -- the same as calls say it
-pub found_placed : (columns : List Classes) (old list new : List Cell) (at : ℕ) (classes keys codes tail : List ℕ) (r : Result (Unit {0}) AllocError) → All (IsCellRepr columns) old → rises cell_cmp (keys_of_cells old) ≡ true
-    → rows_in_all old < MOST_ROWS → AreWithin columns classes codes (length columns) → list ≡ old → keys ≡ classes → tail ≡ codes → IsFound list keys at → OnOk r (IsPushed old new at tail) → OnOk r (IsPut columns old new classes codes)
-found_placed columns old list new at classes keys codes tail r repr up few w cells numbers last found pushed =
+pub found_placed : (columns : List Classes) (old list new : List Cell) (at : ℕ) (classes keys codes tail : List ℕ) → All (IsCellRepr columns) old → rises cell_cmp (keys_of_cells old) ≡ true
+    → rows_in_all old < MOST_ROWS → AreWithin columns classes codes (length columns) → list ≡ old → keys ≡ classes → tail ≡ codes → IsFound list keys at → IsPushed old new at tail → IsPut columns old new classes codes
+found_placed columns old list new at classes keys codes tail repr up few w cells numbers last found pushed =
     let here : IsFound old classes at = subst (λ k. IsFound old k at) numbers (subst (λ l. IsFound l keys at) cells found) in
-    on_ok r (λ p. found_put columns old new at classes codes repr up few w here (subst (IsPushed old new at) last p)) pushed
+    found_put columns old new at classes codes repr up few w here (subst (IsPushed old new at) last pushed)
 
 pub missing_placed : (columns : List Classes) (old list room new : List Cell) (at : ℕ) (cell : Cell) (classes keys codes : List ℕ) → All (IsCellRepr columns) old → AreWithin columns classes codes (length columns)
     → list ≡ old → keys ≡ classes → IsMissing list keys at → IsFirst columns cell classes codes → room ≡ old → new ≡ insert room at cell → IsPut columns old new classes codes

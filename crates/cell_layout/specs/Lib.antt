@@ -10,4 +10,5 @@ pub mod MergeCells
 pub mod Refusals
 pub mod Repartition
 pub mod RowPartition
+pub mod Tables
 pub mod Valid

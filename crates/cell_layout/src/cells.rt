@@ -9,6 +9,8 @@ ghost use Rattle.cell_layout.specs.CellRepr.{IsCellRepr, most_image_rows};
 ghost use Rattle.cell_layout.specs.CellIndex.{AreWithin, keys_of_cells, IsCellIndex};
 ghost use Rattle.cell_layout.specs.InsertRowRepr.{IsPushed, IsPut, rows_in_all};
 ghost use Rattle.cell_layout.specs.RowPartition.{ArePlaced, HasRoomBehind};
+ghost use Rattle.cell_layout.specs.Tables.{HasTablesOf};
+ghost use Rattle.std.specs.Option.{option_copied};
 ghost use Rattle.order_codes.specs.Dictionary.{Classes};
 ghost use Rattle.cell_layout.specs.MergeCells.{AreBothPlaced, IsSameButRoom, AreAlike, AreMerged, IsMergedIn, IsAbsorbedAt, HaveRoomFor, HasRoomFor, IsRoomier, AreRoomierCells, HaveRoom};
 
@@ -16,6 +18,7 @@ use crate::Cell;
 use crate::cell::{absorb, reserve_columns};
 use crate::row_codes::RowCodes;
 use blink_base::{Roomy, Row};
+use column_classes::CodeTable;
 use order_codes::Dict;
 use std::alloc::{AllocError, Global};
 use word_pool::Ledger;
@@ -27,14 +30,17 @@ pub(crate) struct PlacedRows {
     pub(crate) rest: Roomy<Row>,
 }
 
-// Places held rows and a batch behind them in cells of these classes, in the order of their coming.
+// Places held rows and a batch behind them in cells of these classes, in the order of their coming. Where there are tables,
+// values are found by them.
 pub(crate) fn place_rows<M: Ledger>(
     alloc: Global,
     dicts: &[Dict<M>],
+    tables: Option<&[CodeTable]>,
     held: &[Row],
     batch: &[Row],
 ) -> Result<PlacedRows, AllocError>
     requires columns { length dicts.now ≤ MOST_COLUMNS }
+    requires tables { HasTablesOf dicts.now (option_copied tables) }
     requires held { All (λ row. length row ≡ length dicts.now) held.now }
     requires batch { All (λ row. length row ≡ length dicts.now) batch.now }
     requires few { length held.now + length batch.now ≤ MOST_ROWS }
@@ -45,8 +51,8 @@ pub(crate) fn place_rows<M: Ledger>(
         rest: Roomy::new(alloc),
     };
     let mut codes = RowCodes::new(alloc, dicts.len())?;
-    place_more(alloc, dicts, held, &mut codes, &mut placed)?;
-    place_more(alloc, dicts, batch, &mut codes, &mut placed)?;
+    place_more(alloc, dicts, tables, held, &mut codes, &mut placed)?;
+    place_more(alloc, dicts, tables, batch, &mut codes, &mut placed)?;
     Ok(placed)
 }
 
@@ -54,18 +60,21 @@ pub(crate) fn place_rows<M: Ledger>(
 fn place_more<M: Ledger>(
     alloc: Global,
     dicts: &[Dict<M>],
+    tables: Option<&[CodeTable]>,
     rows: &[Row],
     codes: &mut RowCodes,
     placed: &mut PlacedRows,
 ) -> Result<(), AllocError>
     requires columns { length dicts.now ≤ MOST_COLUMNS }
+    requires tables { HasTablesOf dicts.now (option_copied tables) }
     requires full { All (λ row. length row ≡ length dicts.now) rows.now }
     requires room { HasRoomBehind dicts.now placed.old.cells.0 placed.old.rest.0 (length rows.now) }
     ensures { OnOk result ((before : Listed Values) → ArePlaced dicts.now before placed.old.cells.0 placed.old.rest.0 → ArePlaced dicts.now (before ++ rows.now) placed.new.cells.0 placed.new.rest.0) }
 {
     for row in rows {
-        if codes.read(dicts, row.as_slice())? {
-            put_row(alloc, dicts, &mut placed.cells, codes)?;
+        if codes.read(dicts, tables, row.as_slice())? {
+            let at = put_row(alloc, dicts, &mut placed.cells, codes)?;
+            codes.found(at);
         } else {
             placed.rest.push(row.copy(alloc)?)?;
         }
@@ -73,13 +82,14 @@ fn place_more<M: Ledger>(
     Ok(())
 }
 
-// Puts a row behind those of its cell, or into a new one. Where memory is wanting the cells are given up.
+// Puts a row behind those of its cell, or into a new one, and gives the place of the cell. Where memory is wanting the cells
+// are given up.
 fn put_row<M: Ledger>(
     alloc: Global,
     dicts: &[Dict<M>],
     cells: &mut Roomy<Cell>,
     row: &RowCodes,
-) -> Result<(), AllocError>
+) -> Result<usize, AllocError>
     requires columns { length dicts.now ≤ MOST_COLUMNS }
     requires repr { All (IsCellRepr dicts.now) cells.old.0 }
     requires order { IsTrue (rises cell_cmp (keys_of_cells cells.old.0)) }
@@ -87,13 +97,16 @@ fn put_row<M: Ledger>(
     requires within { AreWithin dicts.now row.now.classes.items row.now.codes.items (length dicts.now) }
     ensures { OnOk result (IsPut dicts.now cells.old.0 cells.new.0 row.now.classes.items row.now.codes.items) }
 {
-    match find_cell(cells.as_slice(), row.classes.as_slice()) {
-        Ok(at) => push_at(cells, at, row.codes.as_slice()),
+    match find_cell_near(cells.as_slice(), row.classes.as_slice(), row.hint()) {
+        Ok(at) => {
+            push_at(cells, at, row.codes.as_slice())?;
+            Ok(at)
+        }
         Err(at) => {
             let cell = Cell::of(alloc, dicts, row)?;
             cells.reserve(1)?;
             cells.put_at(at, cell);
-            Ok(())
+            Ok(at)
         }
     }
 }
@@ -109,6 +122,17 @@ fn push_at(cells: &mut Roomy<Cell>, at: usize, codes: &[u32]) -> Result<(), Allo
         Some(cell) => cell.push(codes),
         None => unreachable!(),
     }
+}
+
+// The place of the cell of these class numbers, else where it would stand. One place is tried before the others.
+fn find_cell_near(cells: &[Cell], classes: &[u32], near: usize) -> Result<usize, usize>
+    requires { IsTrue (rises cell_cmp (keys_of_cells cells.now)) }
+    ensures { IsCellIndex cells.now classes.now result }
+{
+    if near < cells.len() && cells[near].classes.as_slice() == classes {
+        return Ok(near);
+    }
+    find_cell(cells, classes)
 }
 
 // The place of the cell of these class numbers, else where it would stand.

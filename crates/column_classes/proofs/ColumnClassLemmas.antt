@@ -1,10 +1,12 @@
 -- The classes that a column's values call for.
 use Rattle.std.proofs.Common.{◌≡◌, ℕ, ◌≤◌, Bool, true, ◌&&◌, ◌==◌, List, [], ◌∷◌, map, length, sum, nat_le, refl, sym, ap, ◌∙◌, subst, arith}
-use Rattle.std.specs.List.{list_all}
+use Rattle.std.specs.List.{list_all, list_any}
+use Rattle.std.specs.Map.{keys_of}
+use Rattle.blink_lists.proofs.AnyLemmas.{any-rearranged}
 use Rattle.std.proofs.lemmas.Bool.{and_parts, and_from, eqb-true}
 use Rattle.std.proofs.lemmas.Cmp.{eq_by_cmp_equiv}
 use Rattle.std.proofs.lemmas.List.{length-map}
-use Rattle.blink_lists.specs.Lists.{are_distinct, joined}
+use Rattle.blink_lists.specs.Lists.{are_distinct, in_order, joined}
 use Rattle.blink_lists.specs.Rearrangement.{Rearranged}
 use Rattle.blink_lists.proofs.RearrangementLemmas.{map-rearranged, length-rearranged}
 use Rattle.blink_base.specs.declared.value.Value.{Value}
@@ -16,7 +18,7 @@ use Rattle.blink_base.specs.RowFits.{is_entry}
 use Rattle.blink_histogram.specs.Ranks.{Counted, distinct_values, count_of, counted, rank_cmp, ranked}
 use Rattle.order_codes.specs.Dictionary.{is_class, are_classes}
 use Rattle.blink_lists.specs.declared.limits.TheConstants.{MOST_ROWS}
-use Rattle.column_classes.specs.ColumnClasses.{in_pieces, classes_by, division_if, counts_of}
+use Rattle.column_classes.specs.ColumnClasses.{in_pieces, classes_by, classes_if, division_if, counts_of}
 use Rattle.blink_lists.proofs.AllLemmas.{all-rearranged, all-once_each}
 use Rattle.blink_lists.proofs.GroupLemmas.{once_each-distinct}
 use Rattle.blink_lists.proofs.DistinctLemmas.{distinct-rearranged, length-once_each-le}
@@ -96,3 +98,14 @@ column_classes chosen kind column all few =
     let sizes = (division_if chosen (counts_of (ranked column))).sizes in
     let has = has_pieces chosen column in
     and_from (are_classes (classes_by (ranked column) sizes)) (list_all (is_entry kind) (joined (classes_by (ranked column) sizes))) (by_pieces column sizes has few) (entries kind column sizes has all)
+
+-- the classes of a column have the values of its interner, and no others
+pub classes_have_values : (chosen : Bool) (column : List Value) (counts : List Counted) (v : Value) → ranked column ≡ in_order rank_cmp counts
+    → list_any (same_value v) (joined (classes_if chosen (ranked column))) ≡ list_any (same_value v) (keys_of counts)
+classes_have_values chosen column counts v ordered =
+    let sizes = (division_if chosen (counts_of (ranked column))).sizes in
+    let pieces = in_pieces sizes (ranked column) in
+    let p = same_value v in
+    sym (any-rearranged p (pieces-joined pieces))
+    ∙ ap (λ l. list_any p (map (λ (c : Counted). c.0) l)) (joined-in_pieces sizes (ranked column) (has_pieces chosen column).all ∙ ordered)
+    ∙ sym (any-rearranged p (map-rearranged (λ (c : Counted). c.0) (rearranged-in_order rank_cmp counts)))

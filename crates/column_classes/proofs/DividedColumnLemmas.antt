@@ -1,5 +1,5 @@
 -- The classes that are made of ranked columns.
-use Rattle.std.proofs.Common.{◌≡◌, ◌≤◌, ◌<◌, ℕ, ◌+◌, ◌-◌, Bool, true, false, ◌==◌, List, [], ◌∷◌, ◌++◌, map, take, length, get_or, ◌&&◌, sum, replicate, slice_get, Option, Some, None, if◌then◌else◌, nat_le, Result, Ok, Err, IfOk, refl, sym, ap, ◌∙◌, arith}
+use Rattle.std.proofs.Common.{◌≡◌, ◌≤◌, ◌<◌, ℕ, suc, pos, subst, ◌+◌, ◌-◌, Bool, true, false, ◌==◌, List, [], ◌∷◌, ◌++◌, map, take, length, get_or, ◌&&◌, sum, replicate, slice_get, Option, Some, None, if◌then◌else◌, nat_le, Result, Ok, Err, IfOk, refl, sym, ap, ◌∙◌, arith}
 use Rattle.std.specs.List.{list_all, list_any}
 use Rattle.std.proofs.Math.Seq.{take-append_seam}
 use Rattle.std.specs.declared.alloc.AllocError.{AllocError}
@@ -7,6 +7,7 @@ use Rattle.std.proofs.lemmas.Bool.{and_parts, eqb-true, leb-true}
 use Rattle.std.proofs.lemmas.List.{get_or-map, length-map, take_more}
 use Rattle.blink_lists.specs.Lists.{numbered}
 use Rattle.blink_base.specs.declared.value.Value.{Value}
+use Rattle.blink_base.specs.declared.value.Value.TheVariants.{Int}
 use Rattle.blink_base.specs.Values.{Row}
 use Rattle.blink_histogram.specs.Ranks.{Counted, ranked}
 use Rattle.freq_partition.specs.Division.{best_division, saving_of, chosen_columns, padded}
@@ -133,3 +134,22 @@ made_dict classes good o is holds gone = none (sym (is ∙ ap (λ b. if b then S
   where
     none : Some classes ≡ None → ⊥
     none e = cc
+
+pub length-column : (rows : List Row) (column : ℕ) → length (column_values rows column) ≡ length rows
+length-column rows column = length-map rows (λ row. get_or row column (Int (pos 0)))
+
+-- the first of the columns that are left, and those behind it
+pub first_ranked : (rows : List Row) (n : ℕ) (left rest : List RankedColumn) (it : RankedColumn) → left ≡ it ∷ rest
+    → ((k : ℕ) (d : RankedColumn) → k < length left → IsRanked (ranked (column_values rows (n + k))) (get_or left k d)) → IsRanked (ranked (column_values rows n)) it
+first_ranked rows n left rest it steps each =
+    let long = ap length steps in
+    let start : n + 0 ≡ n = omega arith in
+    subst (λ j. IsRanked (ranked (column_values rows j)) it) start (subst (λ l. IsRanked (ranked (column_values rows (n + 0))) (get_or l 0 it)) steps (each 0 it (omega arith)))
+
+pub rest_ranked : (rows : List Row) (n : ℕ) (left rest : List RankedColumn) (it : RankedColumn) → left ≡ it ∷ rest
+    → ((k : ℕ) (d : RankedColumn) → k < length left → IsRanked (ranked (column_values rows (n + k))) (get_or left k d))
+    → (k : ℕ) (d : RankedColumn) → k < length rest → IsRanked (ranked (column_values rows ((n + 1) + k))) (get_or rest k d)
+rest_ranked rows n left rest it steps each k d lt =
+    let long = ap length steps in
+    let next : n + suc k ≡ (n + 1) + k = omega arith in
+    subst (λ j. IsRanked (ranked (column_values rows j)) (get_or rest k d)) next (subst (λ l. IsRanked (ranked (column_values rows (n + suc k))) (get_or l (suc k) d)) steps (each (suc k) d (omega arith)))

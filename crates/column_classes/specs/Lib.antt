@@ -1,2 +1,3 @@
+pub mod CodeTable
 pub mod ColumnClasses
 pub mod ColumnStats

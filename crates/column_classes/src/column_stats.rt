@@ -6,6 +6,7 @@ ghost use Rattle.blink_lists.specs.Lists.{in_order};
 ghost use Rattle.blink_histogram.specs.Ranks.{rank_cmp};
 ghost use Rattle.column_classes.specs.ColumnClasses.{counts_of};
 
+use crate::CodeTable;
 use crate::class::classes_in;
 use crate::column::{digest_rows, interned};
 use blink_base::{List, Row, Value};
@@ -26,27 +27,22 @@ pub(crate) struct RankedColumn {
 }
 
 impl RankedColumn {
-    ghost use Rattle.std.specs.Prelude.{◌≡◌, ◌<◌, ◌≤◌, ◌+◌, ◌++◌, IfOk, length, All, List as Listed};
+    ghost use Rattle.std.specs.Prelude.{◌≡◌, ◌≤◌, IfOk, List as Listed};
     ghost use Rattle.blink_lists.specs.declared.limits.TheConstants.{MOST_ROWS};
-    ghost use Rattle.column_classes.specs.ColumnClasses.{column_values, classes_if};
-    ghost use Rattle.blink_histogram.specs.Ranks.{ranked};
+    ghost use Rattle.column_classes.specs.ColumnClasses.{classes_if};
+    ghost use Rattle.blink_lists.specs.Lists.{in_order};
+    ghost use Rattle.blink_histogram.specs.Ranks.{counted, rank_cmp, ranked};
+    ghost use Rattle.blink_histogram.specs.InternerRepr.{numbered_values};
     ghost use Rattle.blink_base.specs.declared.value.Value.{Value as Held};
     ghost use Rattle.column_classes.specs.ColumnStats.{IsColumn, IsRanked};
+    ghost use Rattle.column_classes.specs.CodeTable.{IsTableOf};
 
-    // Of a column of held rows and of a batch behind them; the digest is of all their values.
-    pub(crate) fn of(
-        alloc: Global,
-        held: &[Row],
-        batch: &[Row],
-        column: usize,
-        values: Digest,
-    ) -> Result<RankedColumn, AllocError>
-        requires held { All (λ row. column < length row) held.now }
-        requires batch { All (λ row. column < length row) batch.now }
-        requires few { length held.now + length batch.now ≤ MOST_ROWS }
-        ensures { IfOk result (λ it. IsRanked (ranked (column_values (held.now ++ batch.now) column)) it) }
+    // Of a column whose distinct values were numbered.
+    pub(crate) fn of(alloc: Global, interner: Interner) -> Result<RankedColumn, AllocError>
+        requires counted { (column : Listed Held) × (interner ≡ counted column) }
+        requires few { numbered_values interner ≤ MOST_ROWS }
+        ensures { IfOk result (λ it. IsRanked (in_order rank_cmp interner) it) }
     {
-        let interner = interned(alloc, held, batch, column, values)?;
         let numbers = interner.ranked(alloc)?;
         let counts = counts_by_rank(alloc, &interner, numbers.as_slice())?;
         let cut = cut(alloc, counts.as_slice())?;
@@ -60,17 +56,21 @@ impl RankedColumn {
         })
     }
 
-    // Its dictionary: the classes of its best division, or one class.
-    pub(crate) fn dict<M: Ledger>(
-        &self,
+    // Its dictionary: the classes of its best division, or one class; and the table of its values.
+    pub(crate) fn coded<M: Ledger>(
+        self,
         alloc: Global,
         divided: bool,
-    ) -> Result<Dict<M>, AllocError>
-        requires { IsColumn self.now }
-        ensures { IfOk result (λ dict. (column : Listed Held) → IsRanked (ranked column) self.now → dict ≡ classes_if divided (ranked column)) }
+    ) -> Result<(Dict<M>, CodeTable), AllocError>
+        requires { IsColumn self }
+        ensures dict { IfOk result (λ coded. (column : Listed Held) → IsRanked (ranked column) self → coded.0 ≡ classes_if divided (ranked column)) }
+        ensures table { IfOk result (λ coded. IsTableOf coded.0 coded.1) }
     {
-        match Dict::of(self.classes(alloc, divided)?) {
-            Some(dict) => Ok(dict),
+        let classes = self.classes(alloc, divided)?;
+        let RankedColumn { interner, .. } = self;
+        let table = CodeTable::of(alloc, interner, classes.as_slice())?;
+        match Dict::of(classes) {
+            Some(dict) => Ok((dict, table)),
             None => unreachable!(),
         }
     }
@@ -107,9 +107,10 @@ pub(crate) fn ranked_columns(
     let mut values = Digest::new();
     digest_rows(&mut values, held);
     digest_rows(&mut values, batch);
+    let interners = interned(alloc, held, batch, columns, values)?;
     let mut all = Vec::with_capacity(alloc, columns)?;
-    for column in 0..columns {
-        all.push(RankedColumn::of(alloc, held, batch, column, values)?)?;
+    for interner in interners {
+        all.push(RankedColumn::of(alloc, interner)?)?;
     }
     Ok(all)
 }

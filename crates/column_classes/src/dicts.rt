@@ -1,14 +1,17 @@
 // The dictionaries of rows.
-ghost use Rattle.std.specs.Prelude.{◌≡◌, ◌≤◌, ◌+◌, ◌++◌, ◌==◌, ℕ, All, IfOk, List as Listed, length, map, take};
+ghost use Rattle.std.specs.Prelude.{◌≡◌, ◌≤◌, ◌+◌, ◌++◌, ◌==◌, ◌∷◌, [], ℕ, All, IfOk, OnOk, List as Listed, length, map, take};
 ghost use Rattle.std.specs.List.{list_any};
-ghost use Rattle.column_classes.specs.ColumnClasses.{column_values, counts_of, divided_columns, ranked_columns};
+ghost use Rattle.blink_base.specs.declared.value.Value.{Value as Held};
+ghost use Rattle.column_classes.specs.ColumnClasses.{classes_if, column_values, counts_of, divided_columns, ranked_columns};
 ghost use Rattle.blink_lists.specs.declared.limits.TheConstants.{MOST_COLUMNS, MOST_ROWS};
 ghost use Rattle.blink_lists.specs.Lists.{numbers_from};
 ghost use Rattle.blink_base.specs.Values.{Row as Values};
 ghost use Rattle.blink_histogram.specs.Ranks.{ranked};
 ghost use Rattle.freq_partition.specs.Division.{saving_of};
-ghost use Rattle.column_classes.specs.ColumnStats.{AreRanked};
+ghost use Rattle.column_classes.specs.ColumnStats.{AreRanked, IsColumn, IsRanked};
+ghost use Rattle.column_classes.specs.CodeTable.{AreTablesOf};
 
+use crate::CodeTable;
 use crate::column_stats::{RankedColumn, ranked_columns};
 use blink_base::{List, Row};
 use freq_partition::{Chosen, choose_columns};
@@ -16,30 +19,62 @@ use order_codes::Dict;
 use std::alloc::{AllocError, Global};
 use word_pool::Ledger;
 
-/// The classes that held rows and a batch behind them call for: a dictionary a column. There are at most 32 columns and
-/// 8,388,608 rows, each with a value per column. Source: after Raman et al., ICDE 2008 (frequency partitioning).
-pub fn dictionaries<M: Ledger>(
+/// What a layout needs of the columns of its rows. Source: this project's own.
+#[derive(Drop)]
+pub struct ColumnCodes<M: Ledger> {
+    /// A dictionary a column.
+    pub dicts: List<Dict<M>>,
+    /// A table a column, of the values that it has.
+    pub tables: List<CodeTable>,
+}
+
+/// The classes that held rows and a batch behind them call for: a dictionary a column, and a table of the column's values.
+/// There are at most 32 columns and 8,388,608 rows, each with a value per column. Source: after Raman et al., ICDE 2008
+/// (frequency partitioning).
+pub fn column_codes<M: Ledger>(
     alloc: Global,
     held: &[Row],
     batch: &[Row],
     columns: usize,
-) -> Result<List<Dict<M>>, AllocError>
+) -> Result<ColumnCodes<M>, AllocError>
     requires columns { columns ≤ MOST_COLUMNS }
     requires held { All (λ row. length row ≡ columns) held.now }
     requires batch { All (λ row. length row ≡ columns) batch.now }
     requires few { length held.now + length batch.now ≤ MOST_ROWS }
-    ensures classes { IfOk result (λ dicts. dicts ≡ divided_columns (ranked_columns (held.now ++ batch.now) columns)) }
-    ensures count { IfOk result (λ dicts. length dicts ≡ columns) }
+    ensures classes { IfOk result (λ codes. codes.dicts ≡ divided_columns (ranked_columns (held.now ++ batch.now) columns)) }
+    ensures count { IfOk result (λ codes. length codes.dicts ≡ columns) }
+    ensures tables { IfOk result (λ codes. AreTablesOf codes.dicts codes.tables) }
 {
     let all = ranked_columns(alloc, held, batch, columns)?;
     let savings = savings_of(alloc, all.as_slice())?;
     let chosen = choose_columns(savings.as_slice());
-    let mut dicts = List::new(alloc);
-    for column in 0..columns {
-        let divided = is_chosen(&chosen, column);
-        dicts.push(all[column].dict(alloc, divided)?)?;
+    let mut codes = ColumnCodes {
+        dicts: List::new(alloc),
+        tables: List::new(alloc),
+    };
+    let mut number = 0;
+    for column in all {
+        add_column(alloc, column, is_chosen(&chosen, number), &mut codes)?;
+        number += 1;
     }
-    Ok(dicts)
+    Ok(codes)
+}
+
+// Adds the dictionary and the table of a column behind those of others.
+fn add_column<M: Ledger>(
+    alloc: Global,
+    column: RankedColumn,
+    divided: bool,
+    codes: &mut ColumnCodes<M>,
+) -> Result<(), AllocError>
+    requires { IsColumn column }
+    ensures dicts { OnOk result ((values : Listed Held) → IsRanked (ranked values) column → codes.new.dicts ≡ codes.old.dicts ++ classes_if divided (ranked values) ∷ []) }
+    ensures tables { OnOk result (AreTablesOf codes.old.dicts codes.old.tables → AreTablesOf codes.new.dicts codes.new.tables) }
+{
+    let (dict, table) = column.coded(alloc, divided)?;
+    codes.dicts.push(dict)?;
+    codes.tables.push(table)?;
+    Ok(())
 }
 
 // Whether a column is one of those that are divided.

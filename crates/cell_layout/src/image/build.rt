@@ -13,7 +13,7 @@ use crate::cells::{PlacedRows, place_rows};
 use crate::laws::rows_laid_out_anew_are_kept;
 use crate::{Image, LayoutError};
 use blink_base::{Copied, List, Row, Schema};
-use column_classes::dictionaries;
+use column_classes::{ColumnCodes, column_codes};
 use std::alloc::{AllocError, Global};
 use word_pool::{Ledger, Steps};
 
@@ -76,8 +76,14 @@ impl<M: Ledger> Image<M> {
         requires few { length held.now + length batch.now ≤ MOST_ROWS }
         ensures { IfOk result (λ image. image ≡ laid schema.now (held.now ++ batch.now)) }
     {
-        let dicts = dictionaries(alloc, held, batch, schema.columns.len())?;
-        let PlacedRows { cells, rest } = place_rows(alloc, dicts.as_slice(), held, batch)?;
+        let ColumnCodes { dicts, tables } = column_codes(alloc, held, batch, schema.columns.len())?;
+        let PlacedRows { cells, rest } = place_rows(
+            alloc,
+            dicts.as_slice(),
+            Some(tables.as_slice()),
+            held,
+            batch,
+        )?;
         Ok(Image {
             schema: schema.copied(alloc)?,
             dicts,

@@ -24,6 +24,6 @@ place_rows-requires-clause-batch g c = λ k d lt.
 pub invariant_of-result : goal.invariant_of-result
 invariant_of-result g c =
     let long = c.in_ok-dicts.ensures.count ∙ c.len.ensures in
-    placed_repr c.args.schema.now c.in_ok-copied.field-0 c.in_ok-dicts.dicts (c.args.held.now ++ c.args.batch.now) c.in_ok-cells.field-0.cells.0 c.in_ok-cells.field-0.rest.0 (length c.args.held.now + length c.args.batch.now)
+    placed_repr c.args.schema.now c.in_ok-copied.field-0 c.in_ok-dicts.field-0.dicts (c.args.held.now ++ c.args.batch.now) c.in_ok-cells.field-0.cells.0 c.in_ok-cells.field-0.rest.0 (length c.args.held.now + length c.args.batch.now)
     (subst (λ cs. ArePlaced cs (c.args.held.now ++ c.args.batch.now) c.in_ok-cells.field-0.cells.0 c.in_ok-cells.field-0.rest.0) c.as_slice.ensures c.in_ok-cells.ensures)
     c.in_ok-copied.ensures long c.requires.columns (sym (length-append c.args.held.now c.args.batch.now)) c.requires.few
