@@ -1,7 +1,7 @@
 //! The small types that every crate stands on: words, lists, values, and why a statement is refused.
 //!
-//! [`Word`] and [`List`] are thin types over `String` and `Vec` that contracts see as their bytes and their items. A
-//! value has a kind. A kind says which texts say its values, how a value is kept, and how values are ordered.
+//! [`Word`] and [`List`] are thin types over a boxed `String` and a `Vec` that contracts see as their bytes and their items.
+//! A value has a kind. A kind says which texts say its values, how a value is kept, and how values are ordered.
 #![tactic(auto)]
 
 mod answer;
