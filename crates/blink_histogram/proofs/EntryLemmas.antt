@@ -120,7 +120,7 @@ pub own_place : (es : List Counted) (v : Value) (n : ℕ) → IsDistinct same_va
 own_place es v n apart at = let entry = entry_at es n v at in index-first (same_value v) es n (own_first same_value value_equiv es n v entry.0 apart entry.1)
 
 -- a value stands where it stood, once another or itself is counted
-still_there : (es : List Counted) (v : Value) (n : ℕ) (x : Value) → slice_get (keys_of es) n ≡ Some x → slice_get (keys_of (counting es v)) n ≡ Some x
+pub still_there : (es : List Counted) (v : Value) (n : ℕ) (x : Value) → slice_get (keys_of es) n ≡ Some x → slice_get (keys_of (counting es v)) n ≡ Some x
 still_there [] v n x = λ h. absurd (none-some h)
 still_there (e ∷ es) v n x = by (same_value v e.0) refl n (still_there es v)
   where

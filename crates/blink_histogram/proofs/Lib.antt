@@ -1,3 +1,4 @@
 pub mod CountLemmas
 pub mod EntryLemmas
+pub mod NumberedColumnLemmas
 pub mod RankLemmas

@@ -63,6 +63,8 @@ impl Interner {
         requires { numbered_values self.old < 4294967296 }
         ensures number { IfOk result (λ n. n ≡ number_of self.old value.now) }
         ensures there { IfOk result (λ n. slice_get (keys_of self.new) n ≡ Some value.now) }
+        // What was numbered before keeps its number.
+        ensures kept { OnOk result ((n : ℕ) (v : Kept) → slice_get (keys_of self.old) n ≡ Some v → slice_get (keys_of self.new) n ≡ Some v) }
         // One more value was numbered.
         ensures more { OnOk result (numbered_values self.new ≡ numbered_values self.old + 1) }
         // Where it stood for a column, it stands for the column with this value behind it.

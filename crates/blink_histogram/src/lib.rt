@@ -4,8 +4,10 @@
 mod digest;
 pub mod examples;
 mod interner;
+mod numbered_column;
 mod ranks;
 mod recent;
 
 pub use digest::Digest;
 pub use interner::Interner;
+pub use numbered_column::NumberedColumn;

@@ -4,7 +4,7 @@ use Rattle.blink_histogram.specs.InternerRepr.{numbered_values, counting, number
 use Rattle.std.proofs.Common.{subst}
 use Rattle.indexmap.specs.IndexMap.{insert_entry}
 use Rattle.blink_base.specs.Values.{same_value}
-use Rattle.blink_histogram.proofs.EntryLemmas.{counted-counting, kept-interner, apart-counting, count-within, counting-adds, raised, added, old_place, new_place, numbered_there}
+use Rattle.blink_histogram.proofs.EntryLemmas.{counted-counting, kept-interner, apart-counting, count-within, counting-adds, raised, added, old_place, new_place, numbered_there, still_there}
 use Rattle.std.proofs.Common.{◌+◌, slice_get, Some}
 use Rattle.std.specs.Map.{keys_of}
 use Rattle.blink_histogram.proofs.interner.Interner.number.Goals as goal
@@ -77,3 +77,15 @@ returns-in_ok-insert-in-None-clause-more c =
     let entries = c.in_ok-insert-in-None.ensures.entries ∙ ap (λ v. insert_entry same_value c.self.inside.counts.entries v 1) c.in_ok-key-in-None.ensures
     ∙ added c.self.inside.counts.entries c.args.value.now (sym c.place.ensures ∙ c.in-None.is) in
     ap numbered_values entries ∙ counting-adds c.self.inside.counts.entries c.args.value.now ∙ ap (λ es. numbered_values es + 1) c.self.view_is
+
+pub returns-in-Some-clause-kept : goal.returns-in-Some-clause-kept
+returns-in-Some-clause-kept c n v stood =
+    let es = c.self.inside.counts.entries in
+    let entries = raised es c.args.value.now c.in-Some.at c.index_mut.result.now (sym c.place.ensures ∙ c.in-Some.is) c.index_mut.ensures.value in
+    subst (λ all. slice_get (keys_of all) n ≡ Some v) (sym entries) (still_there es c.args.value.now n v (rw (← c.self.view_is) at stood))
+
+pub returns-in_ok-insert-in-None-clause-kept : goal.returns-in_ok-insert-in-None-clause-kept
+returns-in_ok-insert-in-None-clause-kept c n v stood =
+    let es = c.self.inside.counts.entries in
+    let entries = c.in_ok-insert-in-None.ensures.entries ∙ ap (λ w. insert_entry same_value es w 1) c.in_ok-key-in-None.ensures ∙ added es c.args.value.now (sym c.place.ensures ∙ c.in-None.is) in
+    subst (λ all. slice_get (keys_of all) n ≡ Some v) (sym entries) (still_there es c.args.value.now n v (rw (← c.self.view_is) at stood))
