@@ -1,16 +1,14 @@
 -- Rows as class numbers and codes, and back.
-use Rattle.std.proofs.Common.{◌≡◌, ◌<◌, ℕ, zero, suc, Bool, true, ◌&&◌, ◌==◌, List, [], ◌∷◌, Option, Some, None, map, length, nat_lt, IfSome, refl, sym, ap, ◌∙◌, true≢false, arith}
+use Rattle.std.proofs.Common.{◌≡◌, ◌<◌, ℕ, zero, suc, Bool, true, ◌&&◌, ◌==◌, List, [], ◌∷◌, Option, Some, None, map, length, nat_lt, IfSome, refl, sym, ap, true≢false, arith}
 use Rattle.std.specs.List.{list_all, zip, filter_map}
-use Rattle.std.specs.Map.{lookup}
 use Rattle.std.specs.Option.{is_some}
 use Rattle.std.proofs.lemmas.Bool.{and_parts, and_from, lt-ltb, eq-eqb, eqb-true}
 use Rattle.std.proofs.lemmas.Option.{slice_get_within}
 use Rattle.blink_base.specs.declared.value.Value.{Value}
-use Rattle.blink_base.specs.Values.{Row, same_value}
+use Rattle.blink_base.specs.Values.{Row}
 use Rattle.order_codes.specs.declared.place.CodePlace.{CodePlace}
 use Rattle.order_codes.specs.Dictionary.{Classes, are_classes, class_at, place_of_value}
 use Rattle.order_codes.specs.Codes.{DecodesFound}
-use Rattle.column_classes.specs.CodeTable.{IsTableOf}
 use Rattle.cell_layout.specs.Image.{CodedRow, places_of, is_coded, coded, decoded_row}
 use Rattle.cell_layout.specs.Valid.{are_codes}
 
@@ -42,11 +40,11 @@ place-within decodes classes v place found valid =
     let below = slice_get_within (class_at classes place.class) place.code v (decodes classes v place found valid) in
     (class_within classes place.class place.code below, below)
 
--- the same of what a table finds
-pub table_within : DecodesFound → (classes : Classes) (v : Value) (table : List (Value × CodePlace)) (o : Option CodePlace) → o ≡ lookup (same_value v) table → IsTableOf classes table → are_classes classes ≡ true
+-- the same of an answer
+pub answer_within : DecodesFound → (classes : Classes) (v : Value) (o : Option CodePlace) → o ≡ place_of_value classes v → are_classes classes ≡ true
     → IfSome o (λ place. (place.class < length classes) × (place.code < length (class_at classes place.class)))
-table_within decodes classes v table None found is valid = tt
-table_within decodes classes v table (Some place) found is valid = place-within decodes classes v place (sym (is v) ∙ sym found) valid
+answer_within decodes classes v None found valid = tt
+answer_within decodes classes v (Some place) found valid = place-within decodes classes v place (sym found) valid
 
 -- with one column more
 one_more : DecodesFound → (column : Classes) (columns : List Classes) (v : Value) (row : Row) (place : CodePlace) (r : CodedRow) → place_of_value column v ≡ Some place → are_classes column ≡ true → IsBack columns row r

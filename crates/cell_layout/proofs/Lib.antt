@@ -20,6 +20,7 @@ pub mod LaidImageLemmas
 pub mod MergeCellsLemmas
 pub mod MergePartitionLemmas
 pub mod PlacedImageLemmas
+pub mod PlacesLemmas
 pub mod RepartitionLemmas
 pub mod RepeatedKeyLemmas
 pub mod RowCodeLemmas

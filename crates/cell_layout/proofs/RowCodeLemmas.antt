@@ -1,5 +1,5 @@
 -- The places of a row's values, column by column.
-use Rattle.std.proofs.Common.{◌≡◌, ◌≤◌, ◌<◌, ℕ, zero, suc, ◌+◌, true, false, ◌&&◌, List, [], ◌∷◌, ◌++◌, map, filter_map, take, length, get_or, Option, Some, None, is_some, refl, sym, ap, subst, ◌∙◌, arith, inl, inr, ◌⊎◌}
+use Rattle.std.proofs.Common.{◌≡◌, ◌≤◌, ◌<◌, ℕ, zero, suc, ◌+◌, true, false, ◌&&◌, List, [], ◌∷◌, ◌++◌, pos, map, filter_map, take, length, get_or, Option, Some, None, is_some, refl, sym, ap, subst, ◌∙◌, arith, inl, inr, ◌⊎◌}
 use Rattle.std.specs.List.{list_all}
 use Rattle.std.proofs.Math.Seq.{get_or-append_seam}
 use Rattle.std.proofs.lemmas.Bool.{cases_lt}
@@ -7,6 +7,7 @@ use Rattle.std.proofs.lemmas.List.{take_more, take_all, map-append, get_or_appen
 use Rattle.std.proofs.lemmas.List.Elements.{filter_map-append}
 use Rattle.std.proofs.lemmas.List.Folds.{list_all-append, list_all_at}
 use Rattle.blink_base.specs.declared.value.Value.{Value}
+use Rattle.blink_base.specs.declared.value.Value.TheVariants.{Int}
 use Rattle.blink_base.specs.Values.{Row}
 use Rattle.order_codes.specs.declared.place.CodePlace.{CodePlace}
 use Rattle.order_codes.specs.Dictionary.{Classes, place_of_value, class_at}
@@ -34,8 +35,8 @@ places-at (c ∷ columns) (w ∷ row) (suc k) values v e lt = places-at columns 
 
 module _ (columns : List Classes) (row : Row) (k : ℕ) (full : length row ≡ length columns) where
   -- the place of one more value, as calls say it
-  pub place_here : (v : Value) (o : Option CodePlace) → k < length columns → v ≡ get_or row k v → o ≡ place_of_value (get_or columns k []) v → get_or (places_of columns row) k None ≡ o
-  place_here v o lt at found = places-at columns row k [] v full lt ∙ ap (place_of_value (get_or columns k [])) (sym at) ∙ sym found
+  pub place_here : (o : Option CodePlace) → k < length columns → ((v : Value) → o ≡ place_of_value (get_or columns k []) (get_or row k v)) → get_or (places_of columns row) k None ≡ o
+  place_here o lt found = places-at columns row k [] (Int (pos 0)) full lt ∙ sym (found (Int (pos 0)))
 
   more : (o : Option CodePlace) → k < length columns → get_or (places_of columns row) k None ≡ o → take (k + 1) (places_of columns row) ≡ take k (places_of columns row) ++ o ∷ []
   more o lt here =

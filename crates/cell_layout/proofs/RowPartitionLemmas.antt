@@ -15,6 +15,7 @@ use Rattle.cell_layout.specs.CellIndex.{keys_of_cells, AreWithin, IsFound, IsMis
 use Rattle.cell_layout.specs.InsertRow.{put_row, keys_in, Rising}
 use Rattle.cell_layout.specs.InsertRowRepr.{IsPut, IsPushed, IsFirst, rows_in_all}
 use Rattle.cell_layout.specs.RowPartition.{ArePlaced}
+use Rattle.cell_layout.specs.Places.{AreCodesOf}
 use Rattle.cell_layout.proofs.InsertRowLemmas.{row_placed, Rising-put}
 use Rattle.cell_layout.proofs.CellIndexLemmas.{rising-from, rises-from}
 use Rattle.cell_layout.proofs.InsertRowReprLemmas.{keys-image, found_put, missing_put}
@@ -105,6 +106,13 @@ coded_next columns before rows i item slice b cells new rest classes codes place
     let coded_here : is_coded columns slice ≡ true = sym (ok_one b (is_coded columns slice) told) ∙ true_here in
     subst (λ l. ArePlaced columns l new rest) (sym (one_behind before rows i item slice is lt seen))
     (coded_placed columns (before ++ take i rows) cells new rest slice classes codes placed coded_here (numbers told_true) (same told_true) put)
+
+-- a row whose class numbers and codes are known
+pub known_next : (columns : List Classes) (rows : List Row) (i : ℕ) (row : Row) (cells new : List Cell) (rest : List Row) (classes codes : List ℕ) → ArePlaced columns (take i rows) cells rest
+    → row ≡ get_or rows i row → i < length rows → AreCodesOf columns row classes codes → IsPut columns cells new classes codes → ArePlaced columns (take (i + 1) rows) new rest
+known_next columns rows i row cells new rest classes codes placed is lt are put =
+    subst (λ l. ArePlaced columns l new rest) (sym (one_behind [] rows i row row is lt refl))
+    (coded_placed columns (take i rows) cells new rest row classes codes placed are.whole are.classes are.codes put)
 
 pub rest_next : (columns : List Classes) (before rows : List Row) (i : ℕ) (item slice copy : Row) (b : Bool) (cells : List Cell) (rest more : List Row) → ArePlaced columns (before ++ take i rows) cells rest
     → item ≡ get_or rows i item → i < length rows → slice ≡ item → answer b ≡ answer (is_coded columns slice) → b ≡ false

@@ -7,8 +7,8 @@ pub mod InsertRow
 pub mod InsertRowRepr
 pub mod Layout
 pub mod MergeCells
+pub mod Places
 pub mod Refusals
 pub mod Repartition
 pub mod RowPartition
-pub mod Tables
 pub mod Valid

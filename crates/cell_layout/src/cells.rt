@@ -8,9 +8,8 @@ ghost use Rattle.blink_lists.specs.declared.limits.TheConstants.{MOST_ROWS, MOST
 ghost use Rattle.cell_layout.specs.CellRepr.{IsCellRepr, most_image_rows};
 ghost use Rattle.cell_layout.specs.CellIndex.{AreWithin, keys_of_cells, IsCellIndex};
 ghost use Rattle.cell_layout.specs.InsertRowRepr.{IsPushed, IsPut, rows_in_all};
-ghost use Rattle.cell_layout.specs.RowPartition.{ArePlaced, HasRoomBehind};
-ghost use Rattle.cell_layout.specs.Tables.{HasTablesOf};
-ghost use Rattle.std.specs.Option.{option_copied};
+ghost use Rattle.cell_layout.specs.RowPartition.{ArePlaced};
+ghost use Rattle.cell_layout.specs.Places.{HavePlaces};
 ghost use Rattle.order_codes.specs.Dictionary.{Classes};
 ghost use Rattle.cell_layout.specs.MergeCells.{AreBothPlaced, IsSameButRoom, AreAlike, AreMerged, IsMergedIn, IsAbsorbedAt, HaveRoomFor, HasRoomFor, IsRoomier, AreRoomierCells, HaveRoom};
 
@@ -18,7 +17,7 @@ use crate::Cell;
 use crate::cell::{absorb, reserve_columns};
 use crate::row_codes::RowCodes;
 use blink_base::{Roomy, Row};
-use column_classes::CodeTable;
+use column_classes::CodedColumn;
 use order_codes::Dict;
 use std::alloc::{AllocError, Global};
 use word_pool::Ledger;
@@ -30,19 +29,46 @@ pub(crate) struct PlacedRows {
     pub(crate) rest: Roomy<Row>,
 }
 
-// Places held rows and a batch behind them in cells of these classes, in the order of their coming. Where there are tables,
-// values are found by them.
+// Places rows in cells of these classes, in the order of their coming, by their values. Rows with a value that no class holds
+// are placed in none.
 pub(crate) fn place_rows<M: Ledger>(
     alloc: Global,
     dicts: &[Dict<M>],
-    tables: Option<&[CodeTable]>,
+    rows: &[Row],
+) -> Result<PlacedRows, AllocError>
+    requires columns { length dicts.now ≤ MOST_COLUMNS }
+    requires full { All (λ row. length row ≡ length dicts.now) rows.now }
+    requires few { length rows.now ≤ MOST_ROWS }
+    ensures { IfOk result (λ placed. ArePlaced dicts.now rows.now placed.cells.0 placed.rest.0) }
+{
+    let mut placed = PlacedRows {
+        cells: Roomy::new(alloc),
+        rest: Roomy::new(alloc),
+    };
+    let mut codes = RowCodes::new(alloc, dicts.len())?;
+    for (place, row) in rows.iter().enumerate() {
+        if codes.read(dicts, row.as_slice())? {
+            let at = put_row(alloc, dicts, &mut placed.cells, &codes)?;
+            codes.found(at);
+        } else {
+            placed.rest.push(row.copy(alloc)?)?;
+        }
+    }
+    Ok(placed)
+}
+
+// Places held rows and a batch behind them in cells of these classes, in the order of their coming, by the places that their
+// values have: no row is read.
+pub(crate) fn place_coded<M: Ledger>(
+    alloc: Global,
+    dicts: &[Dict<M>],
+    places: &[CodedColumn],
     held: &[Row],
     batch: &[Row],
 ) -> Result<PlacedRows, AllocError>
     requires columns { length dicts.now ≤ MOST_COLUMNS }
-    requires tables { HasTablesOf dicts.now (option_copied tables) }
-    requires held { All (λ row. length row ≡ length dicts.now) held.now }
-    requires batch { All (λ row. length row ≡ length dicts.now) batch.now }
+    requires full { All (λ row. length row ≡ length dicts.now) (held.now ++ batch.now) }
+    requires places { HavePlaces dicts.now places.now (held.now ++ batch.now) }
     requires few { length held.now + length batch.now ≤ MOST_ROWS }
     ensures { IfOk result (λ placed. ArePlaced dicts.now (held.now ++ batch.now) placed.cells.0 placed.rest.0) }
 {
@@ -51,35 +77,12 @@ pub(crate) fn place_rows<M: Ledger>(
         rest: Roomy::new(alloc),
     };
     let mut codes = RowCodes::new(alloc, dicts.len())?;
-    place_more(alloc, dicts, tables, held, &mut codes, &mut placed)?;
-    place_more(alloc, dicts, tables, batch, &mut codes, &mut placed)?;
-    Ok(placed)
-}
-
-// Places further rows behind those that were placed. Where memory is wanting the placed rows are given up.
-fn place_more<M: Ledger>(
-    alloc: Global,
-    dicts: &[Dict<M>],
-    tables: Option<&[CodeTable]>,
-    rows: &[Row],
-    codes: &mut RowCodes,
-    placed: &mut PlacedRows,
-) -> Result<(), AllocError>
-    requires columns { length dicts.now ≤ MOST_COLUMNS }
-    requires tables { HasTablesOf dicts.now (option_copied tables) }
-    requires full { All (λ row. length row ≡ length dicts.now) rows.now }
-    requires room { HasRoomBehind dicts.now placed.old.cells.0 placed.old.rest.0 (length rows.now) }
-    ensures { OnOk result ((before : Listed Values) → ArePlaced dicts.now before placed.old.cells.0 placed.old.rest.0 → ArePlaced dicts.now (before ++ rows.now) placed.new.cells.0 placed.new.rest.0) }
-{
-    for row in rows {
-        if codes.read(dicts, tables, row.as_slice())? {
-            let at = put_row(alloc, dicts, &mut placed.cells, codes)?;
-            codes.found(at);
-        } else {
-            placed.rest.push(row.copy(alloc)?)?;
-        }
+    for number in 0..held.len() + batch.len() {
+        codes.take(dicts, places, number);
+        let at = put_row(alloc, dicts, &mut placed.cells, &codes)?;
+        codes.found(at);
     }
-    Ok(())
+    Ok(placed)
 }
 
 // Puts a row behind those of its cell, or into a new one, and gives the place of the cell. Where memory is wanting the cells

@@ -1,12 +1,12 @@
 // The codes of a row.
-ghost use Rattle.std.specs.Prelude.{◌≡◌, ◌<◌, [], IfSome, length, slice_index_or as get_or};
-ghost use Rattle.std.specs.Option.{option_copied};
-ghost use Rattle.order_codes.specs.Dictionary.{class_at, place_of_value};
-ghost use Rattle.column_classes.specs.CodeTable.{IsTableOf};
-ghost use Rattle.cell_layout.specs.Tables.{HasTablesOf};
+ghost use Rattle.std.specs.Prelude.{◌≡◌, ◌<◌, [], IfSome, Some, length, slice_index_or as get_or};
+ghost use Rattle.blink_base.specs.Values.{Row as Values};
+ghost use Rattle.blink_base.specs.declared.value.Value.{Value as Held};
+ghost use Rattle.order_codes.specs.Dictionary.{place_of_value};
+ghost use Rattle.cell_layout.specs.Places.{HasPlacesAt, IsPlaceIn};
 
 use blink_base::Value;
-use column_classes::CodeTable;
+use column_classes::CodedColumn;
 use order_codes::laws::places_decode_to_their_values;
 use order_codes::{CodePlace, Dict};
 use std::alloc::{AllocError, Global};
@@ -27,12 +27,16 @@ pub(crate) struct RowCodes {
 }
 
 impl RowCodes {
-    ghost use Rattle.std.specs.Prelude.{OnOk, true, Ok};
+    ghost use Rattle.std.specs.Prelude.{◌≤◌, IfOk, OnOk, true, Ok, vec_capacity};
     ghost use Rattle.cell_layout.specs.Image.{is_coded, coded};
     ghost use Rattle.cell_layout.specs.CellIndex.{AreWithin};
+    ghost use Rattle.cell_layout.specs.Places.{AreCodesOf};
 
     // Of no row yet, with room for so many columns.
-    pub(crate) fn new(alloc: Global, columns: usize) -> Result<RowCodes, AllocError> {
+    pub(crate) fn new(alloc: Global, columns: usize) -> Result<RowCodes, AllocError>
+        ensures classes { IfOk result (λ codes. columns ≤ vec_capacity codes.classes) }
+        ensures codes { IfOk result (λ codes. columns ≤ vec_capacity codes.codes) }
+    {
         Ok(RowCodes {
             classes: Vec::with_capacity(alloc, columns)?,
             codes: Vec::with_capacity(alloc, columns)?,
@@ -45,11 +49,9 @@ impl RowCodes {
     pub(crate) fn read<M: Ledger>(
         &mut self,
         dicts: &[Dict<M>],
-        tables: Option<&[CodeTable]>,
         row: &[Value],
     ) -> Result<bool, AllocError>
         requires full { length row.now ≡ length dicts.now }
-        requires tables { HasTablesOf dicts.now (option_copied tables) }
         ensures told { OnOk result (result ≡ Ok (is_coded dicts.now row.now)) }
         ensures classes { result ≡ Ok true → self.new.classes.items ≡ (coded dicts.now row.now).classes }
         ensures codes { result ≡ Ok true → self.new.codes.items ≡ (coded dicts.now row.now).codes }
@@ -59,7 +61,7 @@ impl RowCodes {
         self.codes.clear();
         let mut mixed = 0;
         for column in 0..dicts.len() {
-            match place_of(dicts, tables, column, &row[column]) {
+            match find_place(dicts, column, row) {
                 Some(place) => {
                     self.classes.push(place.class)?;
                     self.codes.push(place.code)?;
@@ -72,6 +74,33 @@ impl RowCodes {
         Ok(true)
     }
 
+    // Becomes those of the row of a number, by the places of its values: the row is not read. It takes no memory.
+    pub(crate) fn take<M: Ledger>(
+        &mut self,
+        dicts: &[Dict<M>],
+        places: &[CodedColumn],
+        number: usize,
+    )
+        requires row { (row : Values) × (length row ≡ length dicts.now) × HasPlacesAt dicts.now places.now number row }
+        requires class_room { length dicts.now ≤ vec_capacity self.old.classes }
+        requires code_room { length dicts.now ≤ vec_capacity self.old.codes }
+        ensures row { (row : Values) → length row ≡ length dicts.now → HasPlacesAt dicts.now places.now number row → AreCodesOf dicts.now row self.new.classes.items self.new.codes.items }
+        ensures within { AreWithin dicts.now self.new.classes.items self.new.codes.items (length dicts.now) }
+        ensures class_room { vec_capacity self.new.classes ≡ vec_capacity self.old.classes }
+        ensures code_room { vec_capacity self.new.codes ≡ vec_capacity self.old.codes }
+    {
+        self.classes.clear();
+        self.codes.clear();
+        let mut mixed = 0;
+        for column in 0..dicts.len() {
+            let place = known_place(dicts, places, number, column);
+            self.classes.push_reserved(place.class);
+            self.codes.push_reserved(place.code);
+            mixed = mix(mixed, place.class);
+        }
+        self.mixed = mixed;
+    }
+
     // Where the cell of a row with such class numbers was found last; it may have another place.
     pub(crate) fn hint(&self) -> usize {
         match self.hints.get(self.slot()) {
@@ -81,7 +110,10 @@ impl RowCodes {
     }
 
     // Remembers where the cell of the row stands.
-    pub(crate) fn found(&mut self, at: usize) {
+    pub(crate) fn found(&mut self, at: usize)
+        ensures classes { self.new.classes ≡ self.old.classes }
+        ensures codes { self.new.codes ≡ self.old.codes }
+    {
         let slot = self.slot();
         if let Some(hint) = self.hints.get_mut(slot) {
             *hint = at;
@@ -99,33 +131,34 @@ fn mix(mixed: u32, class: u32) -> u32 {
     mixed.wrapping_add(class).wrapping_mul(0x9e37_79b1)
 }
 
-// The class and the code of a value of a column, by the tables where there are some.
-fn place_of<M: Ledger>(
-    dicts: &[Dict<M>],
-    tables: Option<&[CodeTable]>,
-    column: usize,
-    value: &Value,
-) -> Option<CodePlace>
+// The class and the code of a row's value in a column, where it has one.
+fn find_place<M: Ledger>(dicts: &[Dict<M>], column: usize, row: &[Value]) -> Option<CodePlace>
     requires column { column < length dicts.now }
-    requires tables { HasTablesOf dicts.now (option_copied tables) }
-    ensures place { result ≡ place_of_value (get_or dicts.now column []) value.now }
-    ensures within { IfSome result (λ place. (place.class < length (get_or dicts.now column [])) × (place.code < length (class_at (get_or dicts.now column []) place.class))) }
-{
-    let dict = &dicts[column];
-    match tables {
-        Some(tables) => place_by(dict, &tables[column], value),
-        None => dict.find(value),
-    }
-}
-
-// The class and the code of a value, by the table of its column.
-fn place_by<M: Ledger>(dict: &Dict<M>, table: &CodeTable, value: &Value) -> Option<CodePlace>
-    requires { IsTableOf dict.now table.now }
-    ensures place { result ≡ place_of_value dict.now value.now }
-    ensures within { IfSome result (λ place. (place.class < length dict.now) × (place.code < length (class_at dict.now place.class))) }
+    requires full { length row.now ≡ length dicts.now }
+    ensures place { (v : Held) → result ≡ place_of_value (get_or dicts.now column []) (get_or row.now column v) }
+    ensures within { IfSome result (IsPlaceIn (get_or dicts.now column [])) }
 {
     // What decodes is within, and the lists of a dictionary are the classes of a column.
     places_decode_to_their_values();
+    let dict = &dicts[column];
     let _classes = dict.classes();
-    table.find(value)
+    dict.find(&row[column])
+}
+
+// The class and the code of the value of a row's column, by the places of the column.
+fn known_place<M: Ledger>(
+    dicts: &[Dict<M>],
+    places: &[CodedColumn],
+    number: usize,
+    column: usize,
+) -> CodePlace
+    requires column { column < length dicts.now }
+    requires row { (row : Values) × HasPlacesAt dicts.now places.now number row }
+    ensures place { (row : Values) (v : Held) → HasPlacesAt dicts.now places.now number row → Some result ≡ place_of_value (get_or dicts.now column []) (get_or row column v) }
+    ensures within { IsPlaceIn (get_or dicts.now column []) result }
+{
+    // What decodes is within, and the lists of a dictionary are the classes of a column.
+    places_decode_to_their_values();
+    let _classes = dicts[column].classes();
+    places[column].get(number)
 }

@@ -9,12 +9,12 @@ use Rattle.blink_lists.specs.Lists.{numbered}
 use Rattle.blink_base.specs.declared.value.Value.{Value}
 use Rattle.blink_base.specs.declared.value.Value.TheVariants.{Int}
 use Rattle.blink_base.specs.Values.{Row}
-use Rattle.blink_histogram.specs.Ranks.{Counted, ranked}
+use Rattle.blink_histogram.specs.Ranks.{Counted, counted, ranked}
 use Rattle.freq_partition.specs.Division.{best_division, saving_of, chosen_columns, padded}
 use Rattle.blink_lists.specs.declared.limits.TheConstants.{MOST_CLASSES, MOST_ROWS}
 use Rattle.order_codes.specs.Dictionary.{Classes, are_classes}
 use Rattle.column_classes.specs.ColumnClasses.{column_values, classes_by, classes_if, counts_of, division_if, divided_columns, ranked_columns}
-use Rattle.column_classes.specs.ColumnStats.{IsRanked, IsColumn}
+use Rattle.column_classes.specs.ColumnStats.{IsRanked, IsRankedAt, IsColumn}
 use Rattle.column_classes.specs.declared.column_stats.RankedColumn.{RankedColumn}
 use Rattle.blink_lists.proofs.NumberLemmas.{numbers-at, length-numbers, numbered-at, length-numbered}
 use Rattle.column_classes.proofs.ClassSizeLemmas.{sizes_if}
@@ -65,7 +65,7 @@ divided_more rows n k divided dict so_far more lt is here front pushed =
 
 -- the sizes of its classes, as calls say it
 numbers-long : (it : RankedColumn) (values : List Counted) → IsRanked values it → length it.numbers ≡ length values
-numbers-long it values is = sym (length-map it.numbers (slice_get it.interner)) ∙ ap length is.found ∙ length-map values (λ (c : Counted). Some c)
+numbers-long it values is = sym (length-map it.numbers (slice_get (counted it.column))) ∙ ap length is.found ∙ length-map values (λ (c : Counted). Some c)
 
 counts-long : (values : List Counted) → length (counts_of values) ≡ length values
 counts-long values = length-map values (λ (c : Counted). c.1)
@@ -120,9 +120,9 @@ sizes_within it values divided sizes is same =
 -- the classes, as calls say it
 pub by_sizes : (r : Result Classes AllocError) (it : RankedColumn) (numbers sizes : List ℕ) (divided : Bool) → numbers ≡ it.numbers
     → ((values : List Counted) → IsRanked values it → sizes ≡ (division_if divided (counts_of values)).sizes)
-    → IfOk r (λ classes. (values : List Counted) → map (slice_get it.interner) numbers ≡ map Some values → classes ≡ classes_by values sizes)
+    → IfOk r (λ classes. (values : List Counted) → map (slice_get (counted it.column)) numbers ≡ map Some values → classes ≡ classes_by values sizes)
     → IfOk r (λ classes. (column : List Value) → IsRanked (ranked column) it → classes ≡ classes_if divided (ranked column))
-by_sizes (Ok classes) it numbers sizes divided same of got = λ column is. got (ranked column) (ap (map (slice_get it.interner)) same ∙ is.found) ∙ ap (classes_by (ranked column)) (of (ranked column) is)
+by_sizes (Ok classes) it numbers sizes divided same of got = λ column is. got (ranked column) (ap (map (slice_get (counted it.column))) same ∙ is.found) ∙ ap (classes_by (ranked column)) (of (ranked column) is)
 by_sizes (Err e) it numbers sizes divided same of got = tt
 
 -- classes that are so made are classes
@@ -140,16 +140,16 @@ length-column rows column = length-map rows (λ row. get_or row column (Int (pos
 
 -- the first of the columns that are left, and those behind it
 pub first_ranked : (rows : List Row) (n : ℕ) (left rest : List RankedColumn) (it : RankedColumn) → left ≡ it ∷ rest
-    → ((k : ℕ) (d : RankedColumn) → k < length left → IsRanked (ranked (column_values rows (n + k))) (get_or left k d)) → IsRanked (ranked (column_values rows n)) it
+    → ((k : ℕ) (d : RankedColumn) → k < length left → IsRankedAt rows (n + k) (get_or left k d)) → IsRankedAt rows n it
 first_ranked rows n left rest it steps each =
     let long = ap length steps in
     let start : n + 0 ≡ n = omega arith in
-    subst (λ j. IsRanked (ranked (column_values rows j)) it) start (subst (λ l. IsRanked (ranked (column_values rows (n + 0))) (get_or l 0 it)) steps (each 0 it (omega arith)))
+    subst (λ j. IsRankedAt rows j it) start (subst (λ l. IsRankedAt rows (n + 0) (get_or l 0 it)) steps (each 0 it (omega arith)))
 
 pub rest_ranked : (rows : List Row) (n : ℕ) (left rest : List RankedColumn) (it : RankedColumn) → left ≡ it ∷ rest
-    → ((k : ℕ) (d : RankedColumn) → k < length left → IsRanked (ranked (column_values rows (n + k))) (get_or left k d))
-    → (k : ℕ) (d : RankedColumn) → k < length rest → IsRanked (ranked (column_values rows ((n + 1) + k))) (get_or rest k d)
+    → ((k : ℕ) (d : RankedColumn) → k < length left → IsRankedAt rows (n + k) (get_or left k d))
+    → (k : ℕ) (d : RankedColumn) → k < length rest → IsRankedAt rows ((n + 1) + k) (get_or rest k d)
 rest_ranked rows n left rest it steps each k d lt =
     let long = ap length steps in
     let next : n + suc k ≡ (n + 1) + k = omega arith in
-    subst (λ j. IsRanked (ranked (column_values rows j)) (get_or rest k d)) next (subst (λ l. IsRanked (ranked (column_values rows (n + suc k))) (get_or l (suc k) d)) steps (each (suc k) d (omega arith)))
+    subst (λ j. IsRankedAt rows j (get_or rest k d)) next (subst (λ l. IsRankedAt rows (n + suc k) (get_or l (suc k) d)) steps (each (suc k) d (omega arith)))

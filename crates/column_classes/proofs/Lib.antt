@@ -1,7 +1,7 @@
 pub mod ClassPieceLemmas
 pub mod ClassSizeLemmas
 pub mod ClassesForLemmas
-pub mod CodeTableLemmas
+pub mod CodedColumnLemmas
 pub mod ColumnClassLemmas
 pub mod ColumnStatsLemmas
 pub mod DividedColumnLemmas

@@ -1,3 +1,3 @@
-pub mod CodeTable
+pub mod CodedColumn
 pub mod ColumnClasses
 pub mod ColumnStats

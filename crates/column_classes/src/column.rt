@@ -4,77 +4,86 @@ ghost use Rattle.blink_base.specs.declared.value.Value.{Value as Held};
 ghost use Rattle.blink_histogram.specs.Ranks.{counted};
 ghost use Rattle.blink_histogram.specs.InternerRepr.{numbered_values};
 ghost use Rattle.column_classes.specs.ColumnClasses.{column_values};
-ghost use Rattle.column_classes.specs.ColumnStats.{AreInterned, AreInternedTo};
+ghost use Rattle.column_classes.specs.ColumnStats.{AreColumns, AreColumnsTo};
 ghost use Rattle.blink_base.specs.Values.{Row as Values};
 ghost use Rattle.blink_lists.specs.declared.limits.TheConstants.{MOST_ROWS};
 
 use blink_base::{Row, Value};
-use blink_histogram::{Digest, Interner};
+use blink_histogram::{Digest, Interner, NumberedColumn};
 use std::alloc::{AllocError, Global};
 
-// The distinct values of each column, counted, by one walk over the rows, since they lie apart in memory. The digest is of
-// all values that may come.
-pub(crate) fn interned(
+// The columns of held rows and a batch behind them, by one walk over the rows, since they lie apart in memory. The digest is
+// of all values that may come.
+pub(crate) fn numbered(
     alloc: Global,
     held: &[Row],
     batch: &[Row],
     columns: usize,
     values: Digest,
-) -> Result<Vec<Interner>, AllocError>
+) -> Result<Vec<NumberedColumn>, AllocError>
     requires held { All (λ row. columns ≤ length row) held.now }
     requires batch { All (λ row. columns ≤ length row) batch.now }
     requires few { length held.now + length batch.now ≤ MOST_ROWS }
-    ensures { IfOk result (λ interners. AreInterned (held.now ++ batch.now) columns interners.items) }
+    ensures { IfOk result (λ all. AreColumns (held.now ++ batch.now) columns all.items) }
 {
-    let mut interners = interners_of(alloc, columns, values)?;
-    number_rows(&mut interners, held)?;
-    number_rows(&mut interners, batch)?;
-    Ok(interners)
+    let mut all = columns_of(alloc, columns, values, held.len() + batch.len())?;
+    number_rows(&mut all, held)?;
+    number_rows(&mut all, batch)?;
+    Ok(all)
 }
 
-// The interners of so many columns without values.
-fn interners_of(alloc: Global, columns: usize, values: Digest) -> Result<Vec<Interner>, AllocError>
-    ensures { IfOk result (λ interners. AreInterned [] columns interners.items) }
+// So many columns without values, with room for so many rows.
+fn columns_of(
+    alloc: Global,
+    columns: usize,
+    values: Digest,
+    rows: usize,
+) -> Result<Vec<NumberedColumn>, AllocError>
+    ensures { IfOk result (λ all. AreColumns [] columns all.items) }
 {
-    let mut interners = Vec::with_capacity(alloc, columns)?;
+    let mut all = Vec::with_capacity(alloc, columns)?;
     for _column in 0..columns {
-        interners.push(Interner::keyed(alloc, values))?;
+        all.push(NumberedColumn::keyed(alloc, values, rows)?)?;
     }
-    Ok(interners)
+    Ok(all)
 }
 
-// Numbers the values of further rows, each column's by its interner.
-fn number_rows(interners: &mut [Interner], rows: &[Row]) -> Result<(), AllocError>
-    requires within { All (λ row. length interners.old ≤ length row) rows.now }
-    requires few { (before : Listed Values) × (length before + length rows.now ≤ MOST_ROWS) × AreInterned before (length interners.old) interners.old }
-    ensures { OnOk result ((before : Listed Values) → AreInterned before (length interners.old) interners.old → AreInterned (before ++ rows.now) (length interners.old) interners.new) }
+// Puts the values of further rows behind those of their columns.
+fn number_rows(columns: &mut [NumberedColumn], rows: &[Row]) -> Result<(), AllocError>
+    requires within { All (λ row. length columns.old ≤ length row) rows.now }
+    requires few { (before : Listed Values) × (length before + length rows.now ≤ MOST_ROWS) × AreColumns before (length columns.old) columns.old }
+    ensures { OnOk result ((before : Listed Values) → AreColumns before (length columns.old) columns.old → AreColumns (before ++ rows.now) (length columns.old) columns.new) }
 {
     for row in rows {
-        number_row(interners, row.as_slice())?;
+        number_row(columns, row.as_slice())?;
     }
     Ok(())
 }
 
-// Numbers the values of one more row.
-fn number_row(interners: &mut [Interner], row: &[Value]) -> Result<(), AllocError>
-    requires within { length interners.old ≤ length row.now }
-    requires few { (before : Listed Values) × (length before < MOST_ROWS) × AreInterned before (length interners.old) interners.old }
-    ensures { OnOk result ((before : Listed Values) → AreInterned before (length interners.old) interners.old → AreInterned (before ++ row.now ∷ []) (length interners.old) interners.new) }
+// Puts the values of one more row behind those of their columns.
+fn number_row(columns: &mut [NumberedColumn], row: &[Value]) -> Result<(), AllocError>
+    requires within { length columns.old ≤ length row.now }
+    requires few { (before : Listed Values) × (length before < MOST_ROWS) × AreColumns before (length columns.old) columns.old }
+    ensures { OnOk result ((before : Listed Values) → AreColumns before (length columns.old) columns.old → AreColumns (before ++ row.now ∷ []) (length columns.old) columns.new) }
 {
-    for column in 0..interners.len() {
-        number_value(interners, row, column)?;
+    for column in 0..columns.len() {
+        number_value(columns, row, column)?;
     }
     Ok(())
 }
 
-// Numbers the value of one more row in a column; those in the columns before it are numbered.
-fn number_value(interners: &mut [Interner], row: &[Value], column: usize) -> Result<(), AllocError>
-    requires column { column < length interners.old }
+// Puts the value of one more row behind those of a column; those of the columns before it are put.
+fn number_value(
+    columns: &mut [NumberedColumn],
+    row: &[Value],
+    column: usize,
+) -> Result<(), AllocError>
+    requires column { column < length columns.old }
     requires within { column < length row.now }
-    requires few { (before : Listed Values) × (length before < MOST_ROWS) × AreInternedTo column before row.now interners.old }
-    ensures { OnOk result ((before : Listed Values) → AreInternedTo column before row.now interners.old → AreInternedTo (column + 1) before row.now interners.new) }
+    requires few { (before : Listed Values) × (length before < MOST_ROWS) × AreColumnsTo column before row.now columns.old }
+    ensures { OnOk result ((before : Listed Values) → AreColumnsTo column before row.now columns.old → AreColumnsTo (column + 1) before row.now columns.new) }
 {
-    interners[column].number(&row[column])?;
+    columns[column].push(&row[column])?;
     Ok(())
 }
 

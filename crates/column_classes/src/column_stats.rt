@@ -6,20 +6,20 @@ ghost use Rattle.blink_lists.specs.Lists.{in_order};
 ghost use Rattle.blink_histogram.specs.Ranks.{rank_cmp};
 ghost use Rattle.column_classes.specs.ColumnClasses.{counts_of};
 
-use crate::CodeTable;
+use crate::CodedColumn;
 use crate::class::classes_in;
-use crate::column::{digest_rows, interned};
+use crate::column::{digest_rows, numbered};
 use blink_base::{List, Row, Value};
-use blink_histogram::{Digest, Interner};
+use blink_histogram::{Digest, Interner, NumberedColumn};
 use freq_partition::{Cut, cut, single};
 use order_codes::Dict;
 use std::alloc::{AllocError, Global};
 use word_pool::Ledger;
 
-// The distinct values of a column, counted; their numbers and their counts by rank; their best division, and what it saves.
+// A column; the numbers and the counts of its distinct values by rank; their best division, and what it saves.
 #[derive(Drop)]
 pub(crate) struct RankedColumn {
-    pub(crate) interner: Interner,
+    pub(crate) column: NumberedColumn,
     pub(crate) numbers: List<u32>,
     pub(crate) counts: Vec<u64>,
     pub(crate) cut: Cut,
@@ -35,20 +35,21 @@ impl RankedColumn {
     ghost use Rattle.blink_histogram.specs.InternerRepr.{numbered_values};
     ghost use Rattle.blink_base.specs.declared.value.Value.{Value as Held};
     ghost use Rattle.column_classes.specs.ColumnStats.{IsColumn, IsRanked};
-    ghost use Rattle.column_classes.specs.CodeTable.{IsTableOf};
+    ghost use Rattle.column_classes.specs.CodedColumn.{ArePlacesIn};
 
-    // Of a column whose distinct values were numbered.
-    pub(crate) fn of(alloc: Global, interner: Interner) -> Result<RankedColumn, AllocError>
-        requires counted { (column : Listed Held) × (interner ≡ counted column) }
-        requires few { numbered_values interner ≤ MOST_ROWS }
-        ensures { IfOk result (λ it. IsRanked (in_order rank_cmp interner) it) }
+    // Of a column.
+    pub(crate) fn of(alloc: Global, column: NumberedColumn) -> Result<RankedColumn, AllocError>
+        requires { length column ≤ MOST_ROWS }
+        ensures ranked { IfOk result (λ it. IsRanked (ranked column) it) }
+        ensures column { IfOk result (λ it. it.column ≡ column) }
     {
+        let interner = column.interner();
         let numbers = interner.ranked(alloc)?;
-        let counts = counts_by_rank(alloc, &interner, numbers.as_slice())?;
+        let counts = counts_by_rank(alloc, interner, numbers.as_slice())?;
         let cut = cut(alloc, counts.as_slice())?;
         let saving = single(counts.as_slice()).saturating_sub(cut.cost);
         Ok(RankedColumn {
-            interner,
+            column,
             numbers,
             counts,
             cut,
@@ -56,21 +57,21 @@ impl RankedColumn {
         })
     }
 
-    // Its dictionary: the classes of its best division, or one class; and the table of its values.
+    // Its dictionary: the classes of its best division, or one class; and the places of its values.
     pub(crate) fn coded<M: Ledger>(
         self,
         alloc: Global,
         divided: bool,
-    ) -> Result<(Dict<M>, CodeTable), AllocError>
+    ) -> Result<(Dict<M>, CodedColumn), AllocError>
         requires { IsColumn self }
         ensures dict { IfOk result (λ coded. (column : Listed Held) → IsRanked (ranked column) self → coded.0 ≡ classes_if divided (ranked column)) }
-        ensures table { IfOk result (λ coded. IsTableOf coded.0 coded.1) }
+        ensures places { IfOk result (λ coded. ArePlacesIn coded.0 self.column coded.1) }
     {
         let classes = self.classes(alloc, divided)?;
-        let RankedColumn { interner, .. } = self;
-        let table = CodeTable::of(alloc, interner, classes.as_slice())?;
+        let RankedColumn { column, .. } = self;
+        let coded = CodedColumn::of(alloc, column, classes.as_slice())?;
         match Dict::of(classes) {
-            Some(dict) => Ok((dict, table)),
+            Some(dict) => Ok((dict, coded)),
             None => unreachable!(),
         }
     }
@@ -83,11 +84,16 @@ impl RankedColumn {
         let numbers = self.numbers.as_slice();
         if divided {
             let sizes = &self.cut.sizes[..usize::from(self.cut.count)];
-            classes_in(alloc, &self.interner, numbers, sizes)
+            classes_in(alloc, self.column.interner(), numbers, sizes)
         } else if numbers.is_empty() {
-            classes_in(alloc, &self.interner, numbers, &[])
+            classes_in(alloc, self.column.interner(), numbers, &[])
         } else {
-            classes_in(alloc, &self.interner, numbers, &[numbers.len() as u32])
+            classes_in(
+                alloc,
+                self.column.interner(),
+                numbers,
+                &[numbers.len() as u32],
+            )
         }
     }
 }
@@ -107,10 +113,10 @@ pub(crate) fn ranked_columns(
     let mut values = Digest::new();
     digest_rows(&mut values, held);
     digest_rows(&mut values, batch);
-    let interners = interned(alloc, held, batch, columns, values)?;
+    let numbered = numbered(alloc, held, batch, columns, values)?;
     let mut all = Vec::with_capacity(alloc, columns)?;
-    for interner in interners {
-        all.push(RankedColumn::of(alloc, interner)?)?;
+    for column in numbered {
+        all.push(RankedColumn::of(alloc, column)?)?;
     }
     Ok(all)
 }

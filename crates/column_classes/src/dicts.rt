@@ -9,9 +9,9 @@ ghost use Rattle.blink_base.specs.Values.{Row as Values};
 ghost use Rattle.blink_histogram.specs.Ranks.{ranked};
 ghost use Rattle.freq_partition.specs.Division.{saving_of};
 ghost use Rattle.column_classes.specs.ColumnStats.{AreRanked, IsColumn, IsRanked};
-ghost use Rattle.column_classes.specs.CodeTable.{AreTablesOf};
+ghost use Rattle.column_classes.specs.CodedColumn.{ArePlacesOf};
 
-use crate::CodeTable;
+use crate::CodedColumn;
 use crate::column_stats::{RankedColumn, ranked_columns};
 use blink_base::{List, Row};
 use freq_partition::{Chosen, choose_columns};
@@ -24,11 +24,11 @@ use word_pool::Ledger;
 pub struct ColumnCodes<M: Ledger> {
     /// A dictionary a column.
     pub dicts: List<Dict<M>>,
-    /// A table a column, of the values that it has.
-    pub tables: List<CodeTable>,
+    /// The places of the values of each column, row by row.
+    pub places: List<CodedColumn>,
 }
 
-/// The classes that held rows and a batch behind them call for: a dictionary a column, and a table of the column's values.
+/// The classes that held rows and a batch behind them call for: a dictionary a column, and the place of each value.
 /// There are at most 32 columns and 8,388,608 rows, each with a value per column. Source: after Raman et al., ICDE 2008
 /// (frequency partitioning).
 pub fn column_codes<M: Ledger>(
@@ -43,14 +43,14 @@ pub fn column_codes<M: Ledger>(
     requires few { length held.now + length batch.now ≤ MOST_ROWS }
     ensures classes { IfOk result (λ codes. codes.dicts ≡ divided_columns (ranked_columns (held.now ++ batch.now) columns)) }
     ensures count { IfOk result (λ codes. length codes.dicts ≡ columns) }
-    ensures tables { IfOk result (λ codes. AreTablesOf codes.dicts codes.tables) }
+    ensures places { IfOk result (λ codes. ArePlacesOf (held.now ++ batch.now) codes.dicts codes.places) }
 {
     let all = ranked_columns(alloc, held, batch, columns)?;
     let savings = savings_of(alloc, all.as_slice())?;
     let chosen = choose_columns(savings.as_slice());
     let mut codes = ColumnCodes {
         dicts: List::new(alloc),
-        tables: List::new(alloc),
+        places: List::new(alloc),
     };
     let mut number = 0;
     for column in all {
@@ -60,7 +60,7 @@ pub fn column_codes<M: Ledger>(
     Ok(codes)
 }
 
-// Adds the dictionary and the table of a column behind those of others.
+// Adds the dictionary and the places of a column behind those of others.
 fn add_column<M: Ledger>(
     alloc: Global,
     column: RankedColumn,
@@ -69,11 +69,11 @@ fn add_column<M: Ledger>(
 ) -> Result<(), AllocError>
     requires { IsColumn column }
     ensures dicts { OnOk result ((values : Listed Held) → IsRanked (ranked values) column → codes.new.dicts ≡ codes.old.dicts ++ classes_if divided (ranked values) ∷ []) }
-    ensures tables { OnOk result (AreTablesOf codes.old.dicts codes.old.tables → AreTablesOf codes.new.dicts codes.new.tables) }
+    ensures places { OnOk result ((rows : Listed Values) → column.column ≡ column_values rows (length codes.old.dicts) → ArePlacesOf rows codes.old.dicts codes.old.places → ArePlacesOf rows codes.new.dicts codes.new.places) }
 {
-    let (dict, table) = column.coded(alloc, divided)?;
+    let (dict, places) = column.coded(alloc, divided)?;
     codes.dicts.push(dict)?;
-    codes.tables.push(table)?;
+    codes.places.push(places)?;
     Ok(())
 }
 

@@ -47,7 +47,7 @@ impl<M: Ledger> Image<M> {
         self.admit(alloc, limit, batch)?;
         rows_added_are_kept();
         standing_rows_keep_their_places();
-        let placed = place_rows(alloc, self.dicts.as_slice(), None, &[], batch.as_slice())?;
+        let placed = place_rows(alloc, self.dicts.as_slice(), batch.as_slice())?;
         add_placed(&mut self.cells, &mut self.rest, placed)?;
         self.rows += batch.len() as u64;
         Ok(())

@@ -9,7 +9,7 @@ ghost use Rattle.cell_layout.specs.Refusals.{refusal_of, IsRefusal};
 ghost use Rattle.cell_layout.specs.Valid.{is_valid, MayHold};
 ghost use Rattle.blink_lists.specs.declared.limits.TheConstants.{MOST_ROWS, MOST_COLUMNS};
 
-use crate::cells::{PlacedRows, place_rows};
+use crate::cells::{PlacedRows, place_coded};
 use crate::laws::rows_laid_out_anew_are_kept;
 use crate::{Image, LayoutError};
 use blink_base::{Copied, List, Row, Schema};
@@ -76,11 +76,11 @@ impl<M: Ledger> Image<M> {
         requires few { length held.now + length batch.now ≤ MOST_ROWS }
         ensures { IfOk result (λ image. image ≡ laid schema.now (held.now ++ batch.now)) }
     {
-        let ColumnCodes { dicts, tables } = column_codes(alloc, held, batch, schema.columns.len())?;
-        let PlacedRows { cells, rest } = place_rows(
+        let ColumnCodes { dicts, places } = column_codes(alloc, held, batch, schema.columns.len())?;
+        let PlacedRows { cells, rest } = place_coded(
             alloc,
             dicts.as_slice(),
-            Some(tables.as_slice()),
+            places.as_slice(),
             held,
             batch,
         )?;

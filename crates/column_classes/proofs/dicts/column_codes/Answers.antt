@@ -1,12 +1,12 @@
 use Rattle.std.proofs.Common.{◌≡◌, ◌==◌, ◌+◌, ◌++◌, length, get_or, refl, ap, ◌∙◌, sym, subst, arith}
 use Rattle.std.specs.List.{list_any}
 use Rattle.std.specs.Vec.Iter.{into_iter_items}
-use Rattle.std.proofs.lemmas.List.{take_all, length-append}
+use Rattle.std.proofs.lemmas.List.{take_all, length-append, length-take-le}
 use Rattle.blink_histogram.specs.Ranks.{ranked}
 use Rattle.column_classes.specs.ColumnClasses.{classes_if, column_values, divided_columns, ranked_columns}
-use Rattle.column_classes.specs.ColumnStats.{AreRanked, IsRanked}
+use Rattle.column_classes.specs.ColumnStats.{AreRanked, IsRankedAt}
 use Rattle.column_classes.proofs.DividedColumnLemmas.{chosen_is, divided_more, length-divided, length-savings, length-column, first_ranked, rest_ranked}
-use Rattle.column_classes.proofs.CodeTableLemmas.{no_tables}
+use Rattle.column_classes.proofs.CodedColumnLemmas.{no_places}
 use Rattle.column_classes.proofs.dicts.column_codes.Goals as goal
 
 pub choose_columns-chosen-requires : goal.choose_columns-chosen-requires
@@ -23,7 +23,7 @@ add_column-requires g c =
     let long = length-column rows at.number in
     let all = length-append c.args.held.now c.args.batch.now in
     let few = c.requires.few in
-    (column_values rows at.number, omega arith, first_ranked rows at.number (into_iter_items at.column-iterator) (into_iter_items c.next.new.self) c.in-Some.column c.in-Some.ensures.steps.0 at.invariant.each)
+    (column_values rows at.number, omega arith, (first_ranked rows at.number (into_iter_items at.column-iterator) (into_iter_items c.next.new.self) c.in-Some.column c.in-Some.ensures.steps.0 at.invariant.each).ranked)
 
 pub overflow_add-number : goal.overflow_add-number
 overflow_add-number g c =
@@ -44,10 +44,10 @@ loop-column-init g c =
       left = omega arith;
       each = λ k d lt.
           let zero : k ≡ 0 + k = omega arith in
-          subst (λ j. IsRanked (ranked (column_values rows j)) (get_or (into_iter_items c.into_iter-column-iterator.result) k d)) zero
-          (subst (λ l. IsRanked (ranked (column_values rows k)) (get_or l k d)) (sym items) (are.each k d (omega arith)));
+          subst (λ j. IsRankedAt rows j (get_or (into_iter_items c.into_iter-column-iterator.result) k d)) zero
+          (subst (λ l. IsRankedAt rows k (get_or l k d)) (sym items) (are.each k d (omega arith)));
       dicts = c.new.ensures;
-      tables = rw (c.new.ensures, c.new-2.ensures) no_tables;
+      places = rw (c.new.ensures, c.new-2.ensures) (no_places rows);
     }
 
 pub loop-column-preserved : goal.loop-column-preserved
@@ -63,13 +63,15 @@ loop-column-preserved g c =
     let was = at.invariant.counted in
     let left = at.invariant.left in
     let it = first_ranked rows at.number (into_iter_items at.column-iterator) (into_iter_items c.next.new.self) c.in-Some.column steps at.invariant.each in
+    let all = length-divided rows c.args.columns in
+    let done : length at.codes.dicts ≡ at.number = ap length at.invariant.dicts ∙ length-take-le at.number (divided_columns (ranked_columns rows c.args.columns)) (omega arith) in
     record {
       counted = omega arith;
       left = omega arith;
       each = rest_ranked rows at.number (into_iter_items at.column-iterator) (into_iter_items c.next.new.self) c.in-Some.column steps at.invariant.each;
       dicts = divided_more rows c.args.columns at.number c.is_chosen.result (classes_if c.is_chosen.result (ranked (column_values rows at.number))) at.codes.dicts c.add_column.new.codes.dicts (omega arith)
-          (c.is_chosen.ensures ∙ ap (list_any (λ k. k == at.number)) chosen) refl at.invariant.dicts (c.in_ok-add_column.ensures.dicts (column_values rows at.number) it);
-      tables = c.in_ok-add_column.ensures.tables at.invariant.tables;
+          (c.is_chosen.ensures ∙ ap (list_any (λ k. k == at.number)) chosen) refl at.invariant.dicts (c.in_ok-add_column.ensures.dicts (column_values rows at.number) it.ranked);
+      places = c.in_ok-add_column.ensures.places rows (it.values ∙ ap (column_values rows) (sym done)) at.invariant.places;
     }
 
 pub returns-clause-classes : goal.returns-clause-classes
@@ -90,5 +92,5 @@ returns-clause-count g c =
     let left = c.loop-column.invariant.left in
     ap length (c.loop-column.invariant.dicts ∙ take_all c.loop-column.number (divided_columns (ranked_columns rows c.args.columns)) (omega arith)) ∙ long
 
-pub returns-clause-tables : goal.returns-clause-tables
-returns-clause-tables g c = c.loop-column.invariant.tables
+pub returns-clause-places : goal.returns-clause-places
+returns-clause-places g c = c.loop-column.invariant.places

@@ -1,9 +1,8 @@
 use Rattle.std.proofs.Common.{◌≡◌, ◌<◌, ◌+◌, ◌++◌, ℕ, take, length, get_or}
 use Rattle.std.specs.Vec.Iter.{into_iter_items, into_iter_len}
-use Rattle.blink_histogram.specs.Ranks.{ranked}
-use Rattle.column_classes.specs.ColumnClasses.{column_values, divided_columns, ranked_columns}
-use Rattle.column_classes.specs.ColumnStats.{IsRanked}
-use Rattle.column_classes.specs.CodeTable.{AreTablesOf}
+use Rattle.column_classes.specs.ColumnClasses.{divided_columns, ranked_columns}
+use Rattle.column_classes.specs.ColumnStats.{IsRankedAt}
+use Rattle.column_classes.specs.CodedColumn.{ArePlacesOf}
 use Rattle.column_classes.specs.declared.column_stats.RankedColumn.{RankedColumn}
 use Rattle.column_classes.proofs.dicts.column_codes.Given as goal
 
@@ -12,7 +11,7 @@ invariant-loop-column g l = record {
   counted : into_iter_len l.column-iterator ≡ length (into_iter_items l.column-iterator);
   left : l.number + length (into_iter_items l.column-iterator) ≡ l.columns;
   each : (k : ℕ) (d : RankedColumn) → k < length (into_iter_items l.column-iterator)
-      → IsRanked (ranked (column_values (l.held ++ l.batch) (l.number + k))) (get_or (into_iter_items l.column-iterator) k d);
+      → IsRankedAt (l.held ++ l.batch) (l.number + k) (get_or (into_iter_items l.column-iterator) k d);
   dicts : l.codes.dicts ≡ take l.number (divided_columns (ranked_columns (l.held ++ l.batch) l.columns));
-  tables : AreTablesOf l.codes.dicts l.codes.tables;
+  places : ArePlacesOf (l.held ++ l.batch) l.codes.dicts l.codes.places;
 }

@@ -6,14 +6,13 @@ use Rattle.cell_layout.proofs.row_codes.RowCodes.read.Goals as goal
 
 pub returns-in-None-clause-told : goal.returns-in-None-clause-told
 returns-in-None-clause-told g c =
-    let here = place_here c.args.dicts.now c.args.row.now c.loop-column.column c.requires.full c.index-row-column.result None c.loop-column-test.true c.index-row-column.is c.in-None.ensures.place in
+    let here = place_here c.args.dicts.now c.args.row.now c.loop-column.column c.requires.full None c.loop-column-test.true c.in-None.ensures.place in
     ap Ok (sym (none_here c.args.dicts.now c.args.row.now c.loop-column.column c.requires.full c.loop-column-test.true here))
 
 pub loop-column-preserved : goal.loop-column-preserved
 loop-column-preserved g c =
     let here =
-    place_here c.args.dicts.now c.args.row.now c.loop-column.column c.requires.full c.index-row-column.result (Some c.in-Some.place) c.loop-column-test.true c.index-row-column.is
-    c.in-Some.ensures.place in
+    place_here c.args.dicts.now c.args.row.now c.loop-column.column c.requires.full (Some c.in-Some.place) c.loop-column-test.true c.in-Some.ensures.place in
     record {
       classes = classes_more c.args.dicts.now c.args.row.now c.loop-column.column c.requires.full c.in-Some.place c.loop-column.self.classes.items c.push.new.self.items c.loop-column-test.true here c.loop-column.invariant.classes c.in_ok-push-in-Some.ensures.items;
       codes = codes_more c.args.dicts.now c.args.row.now c.loop-column.column c.requires.full c.in-Some.place c.loop-column.self.codes.items c.push-in-Some.new.self.items c.loop-column-test.true here c.loop-column.invariant.codes c.in_ok-push-in-Some-2.ensures.items;

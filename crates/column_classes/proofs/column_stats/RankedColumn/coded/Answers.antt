@@ -1,5 +1,6 @@
 use Rattle.std.proofs.Common.{ap, ◌∙◌}
 use Rattle.std.specs.List.{list_any}
+use Rattle.blink_histogram.specs.Ranks.{counted}
 use Rattle.blink_base.specs.Values.{same_value}
 use Rattle.blink_lists.specs.Lists.{joined}
 use Rattle.order_codes.specs.Dictionary.{are_classes}
@@ -12,7 +13,7 @@ of-requires-clause-classes g c = ap are_classes c.as_slice.ensures ∙ made_clas
 
 pub of-requires-clause-values : goal.of-requires-clause-values
 of-requires-clause-values g c v =
-    ap (λ l. list_any (same_value v) (joined l)) (c.as_slice.ensures ∙ c.in_ok-classes.ensures c.requires.0 c.requires.2) ∙ classes_have_values c.args.divided c.requires.0 c.args.self.interner v c.requires.2.ordered
+    ap (λ l. list_any (same_value v) (joined l)) (c.as_slice.ensures ∙ c.in_ok-classes.ensures c.requires.0 c.requires.2) ∙ classes_have_values c.args.divided c.requires.0 (counted c.args.self.column) v c.requires.2.ordered
 
 pub unreachable-requires : goal.unreachable-requires
 unreachable-requires g c =

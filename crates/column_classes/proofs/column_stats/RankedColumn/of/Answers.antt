@@ -8,19 +8,21 @@ use Rattle.column_classes.proofs.column_stats.RankedColumn.of.Goals as goal
 
 pub cut-requires-clause-positive : goal.cut-requires-clause-positive
 cut-requires-clause-positive c =
-    counted_positive c.requires.counted.0 c.as_slice-2.result.now (c.as_slice-2.ensures.value ∙ c.in_ok-counts.ensures ∙ ap (λ it. counts_of (in_order rank_cmp it)) c.requires.counted.1)
+    counted_positive c.args.column c.as_slice-2.result.now (c.as_slice-2.ensures.value ∙ c.in_ok-counts.ensures ∙ ap (λ it. counts_of (in_order rank_cmp it)) c.interner-interner.ensures.counted)
 
 pub cut-requires-clause-ranked : goal.cut-requires-clause-ranked
-cut-requires-clause-ranked c = ap never_rises (c.as_slice-2.ensures.value ∙ c.in_ok-counts.ensures) ∙ ranked_never_rise c.args.interner
+cut-requires-clause-ranked c = ap never_rises (c.as_slice-2.ensures.value ∙ c.in_ok-counts.ensures) ∙ ranked_never_rise c.interner-interner.result.now
 
 pub cut-requires-clause-few : goal.cut-requires-clause-few
 cut-requires-clause-few c =
-    let all = ap sum (c.as_slice-2.ensures.value ∙ c.in_ok-counts.ensures) ∙ ranked_sum c.args.interner in
-    let few = c.requires.few in
+    let all = ap sum (c.as_slice-2.ensures.value ∙ c.in_ok-counts.ensures) ∙ ranked_sum c.interner-interner.result.now in
+    let few = c.requires in
+    let many = c.interner-interner.ensures.many in
     omega arith
 
 pub single-requires : goal.single-requires
 single-requires c =
-    let all = ap sum (c.as_slice-3.ensures.value ∙ c.in_ok-counts.ensures) ∙ ranked_sum c.args.interner in
-    let few = c.requires.few in
+    let all = ap sum (c.as_slice-3.ensures.value ∙ c.in_ok-counts.ensures) ∙ ranked_sum c.interner-interner.result.now in
+    let few = c.requires in
+    let many = c.interner-interner.ensures.many in
     omega arith

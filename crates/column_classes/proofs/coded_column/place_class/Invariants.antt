@@ -1,6 +1,6 @@
 use Rattle.std.proofs.Common.{◌≡◌, length}
-use Rattle.column_classes.specs.CodeTable.{HavePlaces}
-use Rattle.column_classes.proofs.code_table.place_class.Given as goal
+use Rattle.column_classes.specs.CodedColumn.{HavePlaces}
+use Rattle.column_classes.proofs.coded_column.place_class.Given as goal
 
 abbrev pub invariant-loop-code : goal.invariant-loop-code
 invariant-loop-code l = record {

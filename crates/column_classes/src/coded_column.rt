@@ -1,71 +1,73 @@
 // The places of a column's values.
-ghost use Rattle.std.specs.Prelude.{◌≡◌, ◌≤◌, ◌<◌, IfOk, IsTrue, All, length, map};
+ghost use Rattle.std.specs.Prelude.{◌≡◌, ◌≤◌, ◌<◌, IfOk, IsTrue, Some, length, slice_get};
 ghost use Rattle.std.specs.List.{list_any};
-ghost use Rattle.std.specs.Map.{keys_of, lookup};
+ghost use Rattle.std.specs.Map.{keys_of};
 ghost use Rattle.blink_base.specs.declared.value.Value.{Value as Held};
 ghost use Rattle.blink_base.specs.Values.{same_value};
+ghost use Rattle.blink_histogram.specs.Ranks.{counted};
 ghost use Rattle.blink_lists.specs.Lists.{joined};
 ghost use Rattle.order_codes.specs.Dictionary.{are_classes, class_at};
-ghost use Rattle.column_classes.specs.CodeTable.{IsTableOf, HavePlaces};
+ghost use Rattle.column_classes.specs.CodedColumn.{ArePlacesIn, HavePlaces};
 
 use blink_base::{List, Value};
-use blink_histogram::Interner;
+use blink_histogram::{Interner, NumberedColumn};
 use order_codes::CodePlace;
 use order_codes::laws::{places_decode_to_their_values, values_are_found_where_they_were};
 use std::alloc::{AllocError, Global};
 use std::marker::Model;
 
-/// The values of a column, each with its class and code, seen as a list of pairs. A value is found by its hash, where
-/// [`order_codes::Dict::find`] searches. Source: after Raman et al., ICDE 2008 (order-preserving codes within a partition).
+/// The class and the code of each value of a column, row by row, seen as the list of them. No value is looked for: each is
+/// found by its number. Source: after Raman et al., ICDE 2008 (order-preserving codes within a partition).
 #[derive(Drop)]
-pub struct CodeTable {
-    interner: Interner,
+pub struct CodedColumn {
     // By the numbers of the values.
     places: Vec<CodePlace>,
+    // By row.
+    numbers: Vec<u32>,
 }
 
-impl Model for CodeTable {
-    ghost use Rattle.std.specs.Prelude.{◌≡◌, List, length};
-    ghost use Rattle.std.specs.List.{zip};
-    ghost use Rattle.std.specs.Map.{keys_of};
-    ghost use Rattle.blink_base.specs.declared.value.Value.{Value as Held};
+impl Model for CodedColumn {
+    ghost use Rattle.std.specs.Prelude.{◌<◌, All, List, length};
     ghost use Rattle.order_codes.specs.declared.place.CodePlace.{CodePlace};
+    ghost use Rattle.column_classes.specs.CodedColumn.{places_by};
 
-    ghost Value = { List (Held × CodePlace) };
+    ghost Value = { List CodePlace };
 
-    ghost view = { λ t. zip (keys_of t.interner) t.places.items };
+    ghost view = { λ c. places_by c.places.items c.numbers.items };
 
-    ghost invariant = { λ t. length t.places.items ≡ length t.interner };
+    ghost invariant = { λ c. All (λ n. n < length c.places.items) c.numbers.items };
 }
 
-impl CodeTable {
-    // Of a column with these classes, whose distinct values were numbered.
+impl CodedColumn {
+    // Of a column with these classes.
     pub(crate) fn of(
         alloc: Global,
-        interner: Interner,
+        column: NumberedColumn,
         classes: &[List<Value>],
-    ) -> Result<CodeTable, AllocError>
+    ) -> Result<CodedColumn, AllocError>
         requires classes { IsTrue (are_classes classes.now) }
-        requires values { (v : Held) → list_any (same_value v) (joined classes.now) ≡ list_any (same_value v) (keys_of interner) }
-        ensures { IfOk result (λ table. IsTableOf classes.now table) }
+        requires values { (v : Held) → list_any (same_value v) (joined classes.now) ≡ list_any (same_value v) (keys_of (counted column)) }
+        ensures { IfOk result (λ coded. ArePlacesIn classes.now column coded) }
     {
         places_decode_to_their_values();
         values_are_found_where_they_were();
+        let interner = column.interner();
         let mut places = first_places(alloc, interner.len())?;
         for class in 0..classes.len() {
-            place_class(&interner, classes, class, &mut places);
+            place_class(interner, classes, class, &mut places);
         }
-        Ok(CodeTable { interner, places })
+        Ok(CodedColumn {
+            places,
+            numbers: column.into_numbers(),
+        })
     }
 
-    /// The class and the code of a value; None where it is not in the column. It takes no memory.
-    pub fn find(&self, value: &Value) -> Option<CodePlace>
-        ensures { result ≡ lookup (same_value value.now) self.now }
+    /// The class and the code of the value of a row. It takes no memory.
+    pub fn get(&self, row: usize) -> CodePlace
+        requires { row < length self.now }
+        ensures { slice_get self.now row ≡ Some result }
     {
-        match self.interner.find(value) {
-            Some(number) => Some(self.places[number as usize]),
-            None => None,
-        }
+        self.places[self.numbers[row] as usize]
     }
 }
 

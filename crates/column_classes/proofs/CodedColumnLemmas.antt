@@ -1,15 +1,14 @@
 -- The places of a column's values, written class by class.
-use Rattle.std.proofs.Common.{◌≡◌, ◌≢◌, ◌<◌, ◌≤◌, ◌⊎◌, ◌||◌, inl, inr, ℕ, zero, suc, ◌+◌, Bool, true, false, map, IsTrue, List, [], ◌∷◌, ◌++◌, Option, Some, None, length, slice_get, get_or, position, refl, sym, ap, subst, ◌∙◌, arith, is_some, unwrap_or, true≢false}
-use Rattle.std.specs.Map.{keys_of, lookup}
-use Rattle.std.specs.List.{list_any, zip, position_or_len}
-use Rattle.std.proofs.lemmas.Map.Made.{is_some-lookup}
+use Rattle.std.proofs.Common.{◌≡◌, ◌≢◌, ◌<◌, ◌≤◌, ◌⊎◌, ◌||◌, inl, inr, ℕ, zero, suc, ◌+◌, Bool, true, false, map, IsTrue, List, [], ◌∷◌, ◌++◌, Option, Some, None, length, slice_get, get_or, position, drop, All, refl, sym, ap, subst, ◌∙◌, arith, is_some, unwrap_or, true≢false}
+use Rattle.std.specs.Map.{keys_of}
+use Rattle.std.specs.List.{list_any, position_or_len}
 use Rattle.std.proofs.lemmas.Bool.{cases_lt}
 use Rattle.std.proofs.lemmas.List.{length-map, length-append, get_or_append_left}
 use Rattle.std.proofs.Math.Seq.{get_or-append_seam}
 use Rattle.std.proofs.lemmas.List.Quantifiers.{position-Some}
-use Rattle.std.proofs.lemmas.Option.{slice_get-get_or, slice_get_within, get_or_from_slice_get}
+use Rattle.std.proofs.lemmas.Option.{slice_get-get_or, slice_get_within}
 use Rattle.blink_base.specs.declared.value.Value.{Value}
-use Rattle.blink_base.specs.Values.{same_value}
+use Rattle.blink_base.specs.Values.{Row, same_value}
 use Rattle.blink_base.specs.ValueHash.{one_value, value_equiv}
 use Rattle.blink_lists.specs.Lists.{joined}
 use Rattle.blink_lists.proofs.AnyLemmas.{any_joined}
@@ -18,7 +17,8 @@ use Rattle.blink_histogram.specs.Ranks.{Counted}
 use Rattle.order_codes.specs.declared.place.CodePlace.{CodePlace}
 use Rattle.order_codes.specs.Codes.{DecodesFound, FindsDecoded}
 use Rattle.order_codes.specs.Dictionary.{Classes, are_classes, class_at, class_of, decoded, place_of_value}
-use Rattle.column_classes.specs.CodeTable.{IsBefore, HavePlaces, IsTableOf, AreTablesOf}
+use Rattle.column_classes.specs.CodedColumn.{IsBefore, HavePlaces, first_place, places_by, ArePlacesIn, ArePlacesOf}
+use Rattle.column_classes.specs.ColumnClasses.{column_values}
 
 pub none-some : {A : Type 0} {x : A} → None ≡ Some x → ⊥
 none-some e = true≢false (sym (ap is_some e))
@@ -97,29 +97,10 @@ places_behind counts classes places class have n v d k j at (inl less) dec = by 
         have n v d k j at (inr (same, subst (λ x. j < length (class_at classes x)) same within)) dec
 places_behind counts classes places class have n v d k j at (inr same) dec = absurd (let none = same.1 in omega arith)
 
-module _ {K X : Type 0} where
-  pub keys-zip : (ks : List K) (xs : List X) → length xs ≡ length ks → keys_of (zip ks xs) ≡ ks
-  keys-zip [] xs e = refl
-  keys-zip (k ∷ ks) [] e = absurd (omega arith)
-  keys-zip (k ∷ ks) (x ∷ xs) e = ap (λ l. k ∷ l) (keys-zip ks xs (omega arith))
-
-  pub values-zip : (ks : List K) (xs : List X) → length xs ≡ length ks → map (λ (e : K × X). e.1) (zip ks xs) ≡ xs
-  values-zip [] [] e = refl
-  values-zip [] (x ∷ xs) e = absurd (omega arith)
-  values-zip (k ∷ ks) [] e = absurd (omega arith)
-  values-zip (k ∷ ks) (x ∷ xs) e = ap (λ l. x ∷ l) (values-zip ks xs (omega arith))
-
-  -- the entry that is found
-  pub entry_found : (test : K → Bool) (es : List (K × X)) (x : X) → lookup test es ≡ Some x
-      → (n : ℕ) × (k : K) × (slice_get (keys_of es) n ≡ Some k) × (slice_get (map (λ (e : K × X). e.1) es) n ≡ Some x) × (test k ≡ true)
-  entry_found test [] x h = absurd (none-some h)
-  entry_found test (e ∷ es) x h = by (test e.0) refl h (entry_found test es x)
-    where
-      by : (b : Bool) → test e.0 ≡ b → lookup test (e ∷ es) ≡ Some x
-          → (lookup test es ≡ Some x → (n : ℕ) × (k : K) × (slice_get (keys_of es) n ≡ Some k) × (slice_get (map (λ (y : K × X). y.1) es) n ≡ Some x) × (test k ≡ true))
-          → (n : ℕ) × (k : K) × (slice_get (keys_of (e ∷ es)) n ≡ Some k) × (slice_get (map (λ (y : K × X). y.1) (e ∷ es)) n ≡ Some x) × (test k ≡ true)
-      by true is h more = (0, e.0, refl, rw is at h, is)
-      by false is h more = let rest = more (rw is at h) in (suc rest.0, rest.1, rest.2, rest.3, rest.4)
+-- the places of all classes, under another name of the counts
+pub all_placed : (known counts : List Counted) (classes : Classes) (places : List CodePlace) (class : ℕ) → known ≡ counts → class ≡ length classes → HavePlaces known classes places class 0
+    → HavePlaces counts classes places (length classes) 0
+all_placed known counts classes places class is end placed = subst (λ l. HavePlaces l classes places (length classes) 0) is (subst (λ n. HavePlaces known classes places n 0) end placed)
 
 pub any_at : {X : Type 0} (p : X → Bool) (xs : List X) (n : ℕ) (x : X) → slice_get xs n ≡ Some x → p x ≡ true → list_any p xs ≡ true
 any_at p [] n x at is = absurd (none-some at)
@@ -129,41 +110,6 @@ any_at p (y ∷ ys) (suc n) x at is = ap (λ b. p y || b) (any_at p ys n x at is
     or-true : (b : Bool) → (b || true) ≡ true
     or-true true = refl
     or-true false = refl
-
-module _ (counts : List Counted) (places : List CodePlace) (long : length places ≡ length counts) where
-  keys_long : length places ≡ length (keys_of counts)
-  keys_long = long ∙ sym (length-map counts (λ (c : Counted). c.0))
-
-  -- a value that is found stands at its number
-  pub found_at : (v : Value) (p : CodePlace) → lookup (same_value v) (zip (keys_of counts) places) ≡ Some p → (n : ℕ) × (slice_get (keys_of counts) n ≡ Some v) × (slice_get places n ≡ Some p)
-  found_at v p h =
-      let e = entry_found (same_value v) (zip (keys_of counts) places) p h in
-      let k = ap (λ ks. slice_get ks e.0) (sym (keys-zip (keys_of counts) places keys_long)) ∙ e.2 ∙ ap (λ x. Some x) (sym (one_value v e.1 e.4)) in
-      (e.0, k, ap (λ xs. slice_get xs e.0) (sym (values-zip (keys_of counts) places keys_long)) ∙ e.3)
-
-  pub any_found : (v : Value) → is_some (lookup (same_value v) (zip (keys_of counts) places)) ≡ list_any (same_value v) (keys_of counts)
-  any_found v = is_some-lookup (same_value v) (zip (keys_of counts) places) ∙ ap (list_any (same_value v)) (keys-zip (keys_of counts) places keys_long)
-
-  -- what is found by a number is what the table says
-  pub found_by_number : (v : Value) (n : ℕ) (p : CodePlace) → position (same_value v) (keys_of counts) ≡ Some n → ((m : ℕ) → slice_get (keys_of counts) m ≡ Some v → Some n ≡ Some m) → p ≡ get_or places n p
-      → Some p ≡ lookup (same_value v) (zip (keys_of counts) places)
-  found_by_number v n p at there is = by (lookup (same_value v) (zip (keys_of counts) places)) refl
-    where
-      by : (o : Option CodePlace) → lookup (same_value v) (zip (keys_of counts) places) ≡ o → Some p ≡ o
-      by None h =
-          let any = any_at (same_value v) (keys_of counts) n v (value_there (keys_of counts) v n at) (value_equiv.refl v) in
-          absurd (true≢false (sym any ∙ sym (any_found v) ∙ ap is_some h))
-      by (Some q) h =
-          let e = found_at v q h in
-          let same = some-one (there e.0 e.1) in
-          ap (λ x. Some x) (is ∙ get_or_from_slice_get places n q p (ap (slice_get places) same ∙ e.2))
-
-  pub missing_number : (v : Value) → ((m : ℕ) → slice_get (keys_of counts) m ≡ Some v → None ≡ Some m) → None ≡ lookup (same_value v) (zip (keys_of counts) places)
-  missing_number v there = by (lookup (same_value v) (zip (keys_of counts) places)) refl
-    where
-      by : (o : Option CodePlace) → lookup (same_value v) (zip (keys_of counts) places) ≡ o → None ≡ o
-      by None h = refl
-      by (Some q) h = let e = found_at v q h in absurd (none-some (there e.0 e.1))
 
 any_none : {X : Type 0} (p : X → Bool) (xs : List X) → length xs ≤ position_or_len p xs → list_any p xs ≡ false
 any_none p [] le = refl
@@ -202,47 +148,69 @@ class_within classes k code v dec = by (cases_lt k (length classes))
     by (inr le) =
         absurd (none-some (ap (λ l. slice_get l code) (sym (class_past classes k le)) ∙ dec))
 
--- the places of all values are a table of the classes
-pub table_made : (counts : List Counted) (classes : Classes) (places : List CodePlace) → DecodesFound → FindsDecoded → IsTrue (are_classes classes)
-    → ((v : Value) → list_any (same_value v) (joined classes) ≡ list_any (same_value v) (keys_of counts)) → length places ≡ length counts
-    → HavePlaces counts classes places (length classes) 0 → IsTableOf classes (zip (keys_of counts) places)
-table_made counts classes places decodes finds valid all long have v = by (lookup (same_value v) (zip (keys_of counts) places)) refl (place_of_value classes v) refl
-  where
-    alike : is_some (lookup (same_value v) (zip (keys_of counts) places)) ≡ is_some (place_of_value classes v)
-    alike = any_found counts places long v ∙ sym (all v) ∙ sym (place_of_some classes v)
+module _ (counts : List Counted) (classes : Classes) (places : List CodePlace) (decodes : DecodesFound) (finds : FindsDecoded) (valid : IsTrue (are_classes classes))
+    (all : (v : Value) → list_any (same_value v) (joined classes) ≡ list_any (same_value v) (keys_of counts)) (have : HavePlaces counts classes places (length classes) 0) where
+  -- what stands at a value's number is its place
+  place_made : (n : ℕ) (v : Value) (d : CodePlace) → slice_get (keys_of counts) n ≡ Some v → Some (get_or places n d) ≡ place_of_value classes v
+  place_made n v d at = by (place_of_value classes v) refl
+    where
+      by : (o : Option CodePlace) → place_of_value classes v ≡ o → Some (get_or places n d) ≡ o
+      by None f =
+          let any = any_at (same_value v) (keys_of counts) n v at (value_equiv.refl v) in
+          absurd (true≢false (sym any ∙ sym (all v) ∙ sym (place_of_some classes v) ∙ ap is_some f))
+      by (Some q) f =
+          let dec = decodes classes v q f valid in
+          let here = have n v d q.class q.code at (inl (class_within classes q.class q.code v dec)) dec in
+          sym (finds classes (get_or places n d).class (get_or places n d).code v here valid) ∙ f
 
-    by : (o : Option CodePlace) → lookup (same_value v) (zip (keys_of counts) places) ≡ o → (r : Option CodePlace) → place_of_value classes v ≡ r → lookup (same_value v) (zip (keys_of counts) places) ≡ place_of_value classes v
-    by None e None f = e ∙ sym f
-    by None e (Some q) f = absurd (true≢false (sym (ap is_some f) ∙ sym alike ∙ ap is_some e))
-    by (Some p) e None f = absurd (true≢false (sym (ap is_some e) ∙ alike ∙ ap is_some f))
-    by (Some p) e (Some q) f =
-        let at = found_at counts places long v p e in
-        let dec = decodes classes v q f valid in
-        let here = have at.0 v p q.class q.code at.1 (inl (class_within classes q.class q.code v dec)) dec in
-        let same : get_or places at.0 p ≡ p = get_or_from_slice_get places at.0 p p at.2 in
-        e ∙ sym (finds classes p.class p.code v (sym (ap (λ x. decoded classes x.class x.code) same) ∙ here) valid)
+  -- so the numbers of a column give its places
+  pub places_made : (numbers : List ℕ) (column : List Value) → map (slice_get (keys_of counts)) numbers ≡ map (λ v. Some v) column → ArePlacesIn classes column (places_by places numbers)
+  places_made [] [] e = refl
+  places_made [] (v ∷ vs) e = let long = ap length e in absurd (omega (arith, long))
+  places_made (n ∷ ns) [] e = let long = ap length e in absurd (omega (arith, long))
+  places_made (n ∷ ns) (v ∷ vs) e =
+      let here = place_made n v first_place (ap (λ l. get_or l 0 None) e) in
+      let rest = places_made ns vs (ap (drop 1) e) in
+      rw (here, rest) refl
 
--- no column, and no table
-pub no_tables : AreTablesOf [] []
-no_tables = (refl, λ k c t lt. absurd (omega (arith, lt)))
+  -- and each is that of a place
+  pub numbers_within : length places ≡ length counts → (numbers : List ℕ) (column : List Value) → map (slice_get (keys_of counts)) numbers ≡ map (λ v. Some v) column → All (λ n. n < length places) numbers
+  numbers_within long numbers column e = λ k d lt.
+      let count = ap length e ∙ length-map column (λ (v : Value). Some v) in
+      let many = length-map numbers (slice_get (keys_of counts)) in
+      let keys = length-map counts (λ (c : Counted). c.0) in
+      let at = number_at numbers column k d e lt in
+      let within = slice_get_within (keys_of counts) (get_or numbers k d) at.0 at.1 in
+      omega (arith, within, keys, long)
+    where
+      number_at : (numbers : List ℕ) (column : List Value) (k d : ℕ) → map (slice_get (keys_of counts)) numbers ≡ map (λ v. Some v) column → k < length numbers → (v : Value) × (slice_get (keys_of counts) (get_or numbers k d) ≡ Some v)
+      number_at [] column k d e lt = absurd (omega (arith, lt))
+      number_at (n ∷ ns) [] k d e lt = let long = ap length e in absurd (omega (arith, long))
+      number_at (n ∷ ns) (v ∷ vs) zero d e lt = (v, ap (λ l. get_or l 0 None) e)
+      number_at (n ∷ ns) (v ∷ vs) (suc k) d e lt = number_at ns vs k d (ap (drop 1) e) (omega arith)
 
--- one more column with its table
-pub tables_more : (columns more : List Classes) (tables longer : List (List (Value × CodePlace))) (classes : Classes) (table : List (Value × CodePlace)) → AreTablesOf columns tables → IsTableOf classes table
-    → more ≡ columns ++ classes ∷ [] → longer ≡ tables ++ table ∷ [] → AreTablesOf more longer
-tables_more columns more tables longer classes table are is pushed behind = subst (λ l. AreTablesOf l longer) (sym pushed) (subst (AreTablesOf (columns ++ classes ∷ [])) (sym behind) (
-  length-append tables (table ∷ []) ∙ ap (λ n. n + 1) are.0 ∙ sym (length-append columns (classes ∷ [])),
-  λ k c t lt. by k c t (cases_lt k (length columns)) lt,
+-- no column, and no places
+pub no_places : (rows : List Row) → ArePlacesOf rows [] []
+no_places rows = (refl, λ k c p lt. absurd (omega (arith, lt)))
+
+-- one more column with its places
+pub places_more : (rows : List Row) (columns more : List Classes) (places longer : List (List CodePlace)) (classes : Classes) (column : List Value) (here : List CodePlace) → column ≡ column_values rows (length columns)
+    → ArePlacesOf rows columns places → ArePlacesIn classes column here → more ≡ columns ++ classes ∷ [] → longer ≡ places ++ here ∷ [] → ArePlacesOf rows more longer
+places_more rows columns more places longer classes column here of are is pushed behind = subst (λ l. ArePlacesOf rows l longer) (sym pushed) (subst (ArePlacesOf rows (columns ++ classes ∷ [])) (sym behind) (
+  length-append places (here ∷ []) ∙ ap (λ n. n + 1) are.0 ∙ sym (length-append columns (classes ∷ [])),
+  λ k c p lt. by k c p (cases_lt k (length columns)) lt,
 ))
   where
-    by : (k : ℕ) (c : Classes) (t : List (Value × CodePlace)) → (k < length columns) ⊎ (length columns ≤ k) → k < length (columns ++ classes ∷ []) → IsTableOf (get_or (columns ++ classes ∷ []) k c) (get_or (tables ++ table ∷ []) k t)
-    by k c t (inl less) lt =
+    by : (k : ℕ) (c : Classes) (p : List CodePlace) → (k < length columns) ⊎ (length columns ≤ k) → k < length (columns ++ classes ∷ []) → ArePlacesIn (get_or (columns ++ classes ∷ []) k c) (column_values rows k) (get_or (places ++ here ∷ []) k p)
+    by k c p (inl less) lt =
         let same = are.0 in
-        subst (λ x. IsTableOf x (get_or (tables ++ table ∷ []) k t)) (sym (get_or_append_left columns (classes ∷ []) c k (omega arith)))
-        (subst (IsTableOf (get_or columns k c)) (sym (get_or_append_left tables (table ∷ []) t k (omega arith))) (are.1 k c t less))
-    by k c t (inr more) lt =
+        subst (λ x. ArePlacesIn x (column_values rows k) (get_or (places ++ here ∷ []) k p)) (sym (get_or_append_left columns (classes ∷ []) c k (omega arith)))
+        (subst (ArePlacesIn (get_or columns k c) (column_values rows k)) (sym (get_or_append_left places (here ∷ []) p k (omega arith))) (are.1 k c p less))
+    by k c p (inr above) lt =
         let same = are.0 in
         let long = length-append columns (classes ∷ []) in
-        let here : k ≡ length columns = omega arith in
-        let there : k ≡ length tables = omega arith in
-        subst (λ x. IsTableOf x (get_or (tables ++ table ∷ []) k t)) (sym (ap (λ j. get_or (columns ++ classes ∷ []) j c) here ∙ get_or-append_seam columns classes [] c))
-        (subst (IsTableOf classes) (sym (ap (λ j. get_or (tables ++ table ∷ []) j t) there ∙ get_or-append_seam tables table [] t)) is)
+        let at : k ≡ length columns = omega arith in
+        let there : k ≡ length places = omega arith in
+        subst (λ x. ArePlacesIn x (column_values rows k) (get_or (places ++ here ∷ []) k p)) (sym (ap (λ j. get_or (columns ++ classes ∷ []) j c) at ∙ get_or-append_seam columns classes [] c))
+        (subst (ArePlacesIn classes (column_values rows k)) (sym (ap (λ j. get_or (places ++ here ∷ []) j p) there ∙ get_or-append_seam places here [] p))
+        (subst (λ l. ArePlacesIn classes l here) (of ∙ ap (column_values rows) (sym at)) is))

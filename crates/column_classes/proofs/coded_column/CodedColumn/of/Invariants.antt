@@ -1,6 +1,6 @@
 use Rattle.std.proofs.Common.{◌≡◌, length}
-use Rattle.column_classes.specs.CodeTable.{HavePlaces}
-use Rattle.column_classes.proofs.code_table.CodeTable.of.Given as goal
+use Rattle.column_classes.specs.CodedColumn.{HavePlaces}
+use Rattle.column_classes.proofs.coded_column.CodedColumn.of.Given as goal
 
 abbrev pub invariant-loop-class : goal.invariant-loop-class
 invariant-loop-class l = record {

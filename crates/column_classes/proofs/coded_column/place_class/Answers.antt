@@ -1,10 +1,10 @@
 use Rattle.std.proofs.Common.{◌≡◌, ◌∙◌, ◌+◌, sym, ap, subst, length, get_or, arith}
 use Rattle.std.proofs.lemmas.List.{get_or-set_same, get_or-set_other, length-set}
 use Rattle.order_codes.specs.declared.place.CodePlace.{CodePlace}
-use Rattle.column_classes.specs.CodeTable.{HavePlaces}
-use Rattle.column_classes.proofs.CodeTableLemmas.{decoded_here, place_of_none, place_of_one, some-one, none-some, number_within}
-use Rattle.column_classes.proofs.code_table.place_class.Goals.{in-Some, in_default}
-use Rattle.column_classes.proofs.code_table.place_class.Goals as goal
+use Rattle.column_classes.specs.CodedColumn.{HavePlaces}
+use Rattle.column_classes.proofs.CodedColumnLemmas.{decoded_here, place_of_none, place_of_one, some-one, none-some, number_within}
+use Rattle.column_classes.proofs.coded_column.place_class.Goals.{in-Some, in_default}
+use Rattle.column_classes.proofs.coded_column.place_class.Goals as goal
 
 pub loop-code-preserved : goal.loop-code-preserved
 loop-code-preserved c =
