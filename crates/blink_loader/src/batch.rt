@@ -2,13 +2,12 @@
 ghost use Rattle.std.specs.Prelude.{◌≡◌, ◌≢◌, ◌≤◌, ◌<◌, ◌+◌, ◌^◌, Err, IfOk, IsTrue, length};
 ghost use Rattle.std.specs.List.{list_all, zip};
 ghost use Rattle.csv.specs.Records.{fields_of};
-ghost use Rattle.blink_base.specs.ReadValue.{read_value};
 ghost use Rattle.blink_base.specs.RowFits.{fits, is_entry};
 ghost use Rattle.blink_loader.specs.Records.{same_name};
 ghost use Rattle.blink_loader.specs.Batch.{value_of, values_from, row_of, rows_from, is_header, batch_over, batch};
 
 use crate::records::{Records, field_of, same_name};
-use blink_base::{Column, Kind, List, Row, Schema, Value, ValueFault};
+use blink_base::{Column, List, Row, Schema, Value, ValueFault};
 use csv::ByteRecord;
 use std::alloc::Global;
 use thiserror::Error;
@@ -59,21 +58,14 @@ fn is_header(columns: &[Column], header: &ByteRecord) -> bool
     header.len() == columns.len() && are_names(columns, header)
 }
 
-// What the field of this number in the record of this number says.
-fn value_of(
-    alloc: Global,
-    kind: Kind,
-    at: u64,
-    field: u32,
-    bytes: &[u8],
-) -> Result<Value, LoadFault>
-    ensures value { result ≢ Err LoadFault.Memory → result ≡ value_of at field (read_value kind bytes.now) }
-    ensures entry { IfOk result (λ value. IsTrue (is_entry kind value)) }
+// The refusal of a fault in the field of this number in the record of this number.
+fn fault_of(at: u64, field: u32, fault: ValueFault) -> LoadFault
+    ensures told { result ≢ LoadFault.Memory → Err result ≡ value_of at field (Err fault) }
+    ensures memory { result ≢ LoadFault.Memory → fault ≢ ValueFault.Memory }
 {
-    match Value::read(alloc, kind, bytes) {
-        Ok(value) => Ok(value),
-        Err(ValueFault::Memory) => Err(LoadFault::Memory),
-        Err(fault) => Err(LoadFault::BadValue { at, field, fault }),
+    match fault {
+        ValueFault::Memory => LoadFault::Memory,
+        fault => LoadFault::BadValue { at, field, fault },
     }
 }
 
@@ -95,8 +87,10 @@ fn values_of(
     };
     for (place, column) in columns.iter().enumerate() {
         let bytes = field_of(fields, place);
-        let value = value_of(alloc, column.kind, at, place as u32 + 1, bytes)?;
-        values.push_reserved(value);
+        match Value::read(alloc, column.kind, bytes) {
+            Ok(value) => values.push_reserved(value),
+            Err(fault) => return Err(fault_of(at, place as u32 + 1, fault)),
+        }
     }
     Ok(List::from_vec(values))
 }
